@@ -1,14 +1,14 @@
 //! The records from the last to the first, so that what is around a record is known where it stands.
 
 use crate::error::{Early, EarlyError};
-use crate::frame::{Context, Frame, Undo};
+use crate::frame::{CheckFrame, JumpContext, Undo};
 use crate::labels::Labels;
-use crate::members::{key_of, part_of, private_key};
-use crate::params::{Bound, before, bound_of, record_at};
+use crate::members::{key_of, kind_of, private_key};
+use crate::params::{Bound, before, bound_of};
 use crate::privates::Privates;
-use bundle_js_pieces::Texts;
+use bundle_js_pieces::RecordTexts;
 use bundle_js_record::kind::Kind;
-use bundle_js_record::record::Rec;
+use bundle_js_record::record::{Rec, record_at};
 use bundle_js_regex::{RegexError, check_literal};
 use std::alloc::Global;
 use std::collections::BTreeMap;
@@ -24,9 +24,9 @@ struct Parameter {
 #[derive(Drop)]
 struct Checker<'r, 'a> {
     alloc: Global,
-    texts: Texts<'a>,
+    texts: RecordTexts<'a>,
     records: &'r [Rec],
-    frames: Vec<Frame>,
+    frames: Vec<CheckFrame>,
     labels: Labels<'a>,
     privates: Privates<'a>,
     // The last function that has a parameter of this name, and where the first of these stands.
@@ -48,10 +48,10 @@ impl<'r, 'a> Checker<'r, 'a> {
     }
 
     // What a statement may leave, or go on with, here.
-    fn context(&self) -> Context {
+    fn context(&self) -> JumpContext {
         match self.frames.as_slice().last() {
             Some(frame) => frame.context,
-            None => Context {
+            None => JumpContext {
                 in_loop: false,
                 in_breakable: false,
                 labels: 0,
@@ -84,11 +84,11 @@ impl<'r, 'a> Checker<'r, 'a> {
         &mut self,
         at: usize,
         start: u32,
-        context: Context,
+        context: JumpContext,
         undo: Undo,
     ) -> Result<(), EarlyError> {
         let at = u32::try_from(at).unwrap_or(u32::MAX);
-        self.frames.push(Frame {
+        self.frames.push(CheckFrame {
             at,
             start,
             context,
@@ -130,7 +130,7 @@ impl<'r, 'a> Checker<'r, 'a> {
     fn function(&mut self, at: usize, rec: Rec) -> Result<(), EarlyError> {
         let body = record_at(self.records, at.saturating_sub(1));
         self.names(at, rec.start as usize, body.start as usize)?;
-        let context = Context {
+        let context = JumpContext {
             in_loop: false,
             in_breakable: false,
             labels: self.labels.len(),
@@ -254,12 +254,12 @@ impl<'r, 'a> Checker<'r, 'a> {
 
     // Declares the private name of a member, if it has one.
     fn declare(&mut self, outer: u32, member: Rec, at: usize) -> Result<(), EarlyError> {
-        let Some(part) = part_of(member) else {
+        let Some(kind) = kind_of(member) else {
             return Ok(());
         };
         let key = private_key(self.records, member, at);
         let name = self.texts.value(key)?;
-        if let Some(later) = self.privates.declare(outer, name, part, key.from)? {
+        if let Some(later) = self.privates.declare(outer, name, kind, key.from)? {
             self.refuse(Early::PrivateTwice, later);
         }
         Ok(())
@@ -322,7 +322,7 @@ impl<'r, 'a> Checker<'r, 'a> {
 }
 
 /// Refused where a text with these records has an early error that only the whole of it shows, and for memory.
-pub fn check(alloc: Global, texts: Texts<'_>, records: &[Rec]) -> Result<(), EarlyError> {
+pub fn check(alloc: Global, texts: RecordTexts<'_>, records: &[Rec]) -> Result<(), EarlyError> {
     let mut checker = Checker {
         alloc,
         texts,

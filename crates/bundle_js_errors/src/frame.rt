@@ -2,7 +2,7 @@
 
 /// What a statement may leave, or go on with, where it stands.
 #[derive(Clone, Copy)]
-pub struct Context {
+pub struct JumpContext {
     /// Whether a loop is around it in its function.
     pub in_loop: bool,
     /// Whether a loop or a `switch` is.
@@ -23,11 +23,11 @@ pub enum Undo {
 
 /// A node that is gone through.
 #[derive(Clone, Copy)]
-pub struct Frame {
+pub struct CheckFrame {
     /// The place of its record.
     pub at: u32,
     /// The place of the first record of which it is around.
     pub start: u32,
-    pub context: Context,
+    pub context: JumpContext,
     pub undo: Undo,
 }

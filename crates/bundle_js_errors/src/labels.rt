@@ -1,23 +1,22 @@
 //! Labels (ECMA-262, 14.13).
 
+use crate::numbers::NameNumbers;
 use std::alloc::{AllocError, Global};
-use std::collections::BTreeMap;
 
 // A label whose statement is gone through.
 #[derive(Clone, Copy)]
-struct Label<'a> {
+struct LabelEntry<'a> {
     name: &'a str,
     // The number of the label of this name around it, 0 where there is none.
     hidden: u32,
     is_loop: bool,
 }
 
-/// The labels around a place, from the outermost on, numbered from 1 on. They are found by their order and
-/// never by a hash, so that no choice of names makes a search long.
+/// The labels around a place, from the outermost on, numbered from 1 on.
 #[derive(Drop)]
 pub struct Labels<'a> {
-    list: Vec<Label<'a>>,
-    numbers: BTreeMap<&'a str, u32>,
+    list: Vec<LabelEntry<'a>>,
+    numbers: NameNumbers<'a>,
 }
 
 impl<'a> Labels<'a> {
@@ -25,7 +24,7 @@ impl<'a> Labels<'a> {
     pub fn new(alloc: Global) -> Labels<'a> {
         Labels {
             list: Vec::new(alloc),
-            numbers: BTreeMap::new(alloc),
+            numbers: NameNumbers::new(alloc),
         }
     }
 
@@ -36,10 +35,7 @@ impl<'a> Labels<'a> {
 
     /// The number of the innermost label of this name, 0 where there is none.
     pub fn find(&self, name: &'a str) -> u32 {
-        match self.numbers.get(&name) {
-            Some(number) => *number,
-            None => 0,
-        }
+        self.numbers.find(name)
     }
 
     /// Whether the label of this number is a loop's.
@@ -57,24 +53,19 @@ impl<'a> Labels<'a> {
     /// Puts a label inside all others.
     pub fn push(&mut self, name: &'a str) -> Result<(), AllocError> {
         let hidden = self.find(name);
-        self.list.push(Label {
+        self.list.push(LabelEntry {
             name,
             hidden,
             is_loop: false,
         })?;
         let number = self.len();
-        self.numbers.insert(name, number)?;
-        Ok(())
+        self.numbers.set(name, number)
     }
 
     /// Takes the innermost label away.
     pub fn pop(&mut self) -> Result<(), AllocError> {
         if let Some(label) = self.list.pop() {
-            if label.hidden == 0 {
-                let _ = self.numbers.remove(&label.name);
-            } else {
-                self.numbers.insert(label.name, label.hidden)?;
-            }
+            self.numbers.set(label.name, label.hidden)?;
         }
         Ok(())
     }

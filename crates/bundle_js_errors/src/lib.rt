@@ -8,6 +8,7 @@ mod error;
 mod frame;
 mod labels;
 mod members;
+mod numbers;
 mod params;
 mod privates;
 

@@ -1,10 +1,9 @@
 //! What stands in classes and objects.
 
-use crate::params::record_at;
-use crate::privates::Part;
+use crate::privates::PrivateKind;
 use bundle_js_record::kind::Kind;
-use bundle_js_record::record::Rec;
-use bundle_tree_leaf::MethodKind;
+use bundle_js_record::record::{Rec, record_at};
+use bundle_syntax::MethodKind;
 
 /// The private name that is the key of the member at this place, the first in it.
 pub fn private_key(records: &[Rec], member: Rec, at: usize) -> Rec {
@@ -24,18 +23,18 @@ pub fn key_of(records: &[Rec], at: usize) -> Rec {
 }
 
 /// What a member with a private name is in its class; none where its name is not private.
-pub fn part_of(member: Rec) -> Option<Part> {
+pub fn kind_of(member: Rec) -> Option<PrivateKind> {
     let is_static = member.op & 4 != 0;
     match member.kind {
-        Kind::PrivateProp => Some(Part::Whole),
+        Kind::PrivateProp => Some(PrivateKind::Whole),
         Kind::PrivateMethod => {
             let kind = member.op & 3;
             if kind == MethodKind::Getter as u8 {
-                Some(Part::Getter { is_static })
+                Some(PrivateKind::Getter { is_static })
             } else if kind == MethodKind::Setter as u8 {
-                Some(Part::Setter { is_static })
+                Some(PrivateKind::Setter { is_static })
             } else {
-                Some(Part::Whole)
+                Some(PrivateKind::Whole)
             }
         }
         _ => None,

@@ -1,7 +1,7 @@
 //! The names that parameters bind (ECMA-262, 15.1).
 
 use bundle_js_record::kind::Kind;
-use bundle_js_record::record::Rec;
+use bundle_js_record::record::{Rec, record_at};
 
 /// What a record is to the names of the patterns that it may stand in.
 #[derive(Clone, Copy, PartialEq, Eq)]
@@ -28,22 +28,6 @@ pub fn bound_of(kind: Kind) -> Bound {
         | Kind::Gone => Bound::Around,
         Kind::AssignPat | Kind::AssignPatProp => Bound::Left,
         _ => Bound::Nothing,
-    }
-}
-
-/// The record at this place; one of no kind where there is none.
-pub fn record_at(records: &[Rec], at: usize) -> Rec {
-    match records.get(at) {
-        Some(rec) => *rec,
-        None => Rec {
-            kind: Kind::Gone,
-            field: 0,
-            op: 0,
-            start: 0,
-            from: 0,
-            to: 0,
-            text: 0,
-        },
     }
 }
 

@@ -1,11 +1,11 @@
 //! The private names of classes (ECMA-262, 15.7.1).
 
+use crate::numbers::NameNumbers;
 use std::alloc::{AllocError, Global};
-use std::collections::BTreeMap;
 
 /// What a private name is in its class.
 #[derive(Clone, Copy, PartialEq, Eq)]
-pub enum Part {
+pub enum PrivateKind {
     Getter { is_static: bool },
     Setter { is_static: bool },
     /// Any other member, or a getter and its setter.
@@ -18,24 +18,25 @@ struct Declared<'a> {
     name: &'a str,
     // The number of the one of this name in a class around it, 0 where there is none.
     hidden: u32,
-    part: Part,
+    kind: PrivateKind,
     // The place in the source.
     from: u32,
 }
 
-/// The private names of the classes around a place, from those of the outermost on, numbered from 1 on. They
-/// are found by their order and never by a hash, so that no choice of names makes a search long.
+/// The private names of the classes around a place, from those of the outermost on, numbered from 1 on.
 #[derive(Drop)]
 pub struct Privates<'a> {
     list: Vec<Declared<'a>>,
-    numbers: BTreeMap<&'a str, u32>,
+    numbers: NameNumbers<'a>,
 }
 
 // Whether these two may be of one name in a class.
-fn is_pair(one: Part, other: Part) -> bool {
+fn is_pair(one: PrivateKind, other: PrivateKind) -> bool {
     match (one, other) {
-        (Part::Getter { is_static }, Part::Setter { is_static: other }) => is_static == other,
-        (Part::Setter { is_static }, Part::Getter { is_static: other }) => is_static == other,
+        (PrivateKind::Getter { is_static }, PrivateKind::Setter { is_static: other }) => is_static
+            == other,
+        (PrivateKind::Setter { is_static }, PrivateKind::Getter { is_static: other }) => is_static
+            == other,
         _ => false,
     }
 }
@@ -45,7 +46,7 @@ impl<'a> Privates<'a> {
     pub fn new(alloc: Global) -> Privates<'a> {
         Privates {
             list: Vec::new(alloc),
-            numbers: BTreeMap::new(alloc),
+            numbers: NameNumbers::new(alloc),
         }
     }
 
@@ -56,10 +57,7 @@ impl<'a> Privates<'a> {
 
     /// The number of the innermost of this name, 0 where there is none.
     pub fn find(&self, name: &'a str) -> u32 {
-        match self.numbers.get(&name) {
-            Some(number) => *number,
-            None => 0,
-        }
+        self.numbers.find(name)
     }
 
     /// Puts a name into the class whose names are those behind the first `outer`. Where it may not be of this
@@ -68,31 +66,31 @@ impl<'a> Privates<'a> {
         &mut self,
         outer: u32,
         name: &'a str,
-        part: Part,
+        kind: PrivateKind,
         from: u32,
     ) -> Result<Option<u32>, AllocError> {
         let hidden = self.find(name);
         if hidden > outer {
-            return Ok(self.join(hidden, part, from));
+            return Ok(self.join(hidden, kind, from));
         }
         self.list.push(Declared {
             name,
             hidden,
-            part,
+            kind,
             from,
         })?;
         let number = self.len();
-        self.numbers.insert(name, number)?;
+        self.numbers.set(name, number)?;
         Ok(None)
     }
 
     // Makes a getter and its setter one. Where they are no such pair, the place of the later of both.
-    fn join(&mut self, number: u32, part: Part, from: u32) -> Option<u32> {
+    fn join(&mut self, number: u32, kind: PrivateKind, from: u32) -> Option<u32> {
         let place = (number as usize).saturating_sub(1);
         let declared = self.list.as_mut_slice().get_mut(place)?;
         let later = declared.from.max(from);
-        let paired = is_pair(declared.part, part);
-        declared.part = Part::Whole;
+        let paired = is_pair(declared.kind, kind);
+        declared.kind = PrivateKind::Whole;
         if paired { None } else { Some(later) }
     }
 
@@ -100,11 +98,7 @@ impl<'a> Privates<'a> {
     pub fn forget(&mut self, outer: u32) -> Result<(), AllocError> {
         for _ in outer as usize..self.list.len() {
             if let Some(declared) = self.list.pop() {
-                if declared.hidden == 0 {
-                    let _ = self.numbers.remove(&declared.name);
-                } else {
-                    self.numbers.insert(declared.name, declared.hidden)?;
-                }
+                self.numbers.set(declared.name, declared.hidden)?;
             }
         }
         Ok(())

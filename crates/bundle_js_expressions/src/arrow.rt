@@ -3,13 +3,17 @@
 use bundle_js_machine::machine::Machine;
 use bundle_js_machine::state::{Arrows, State};
 use bundle_js_record::kind::Kind;
-use bundle_js_record::pattern::Use;
+use bundle_js_record::pattern::PatternUse;
 use bundle_js_record::reader::Stop;
-use bundle_js_record::record::Place;
+use bundle_js_record::record::NodeStart;
 use bundle_js_scan::token::{Tok, Token};
 
 /// `async` where an operand stands: a name, a function, an arrow function, or a call that may turn out to be one.
-pub fn async_operand(machine: &mut Machine<'_>, arrows: Arrows, place: Place) -> Result<(), Stop> {
+pub fn async_operand(
+    machine: &mut Machine<'_>,
+    arrows: Arrows,
+    place: NodeStart,
+) -> Result<(), Stop> {
     let word = machine.reader.lexer.token();
     let next = machine.reader.peek();
     if next.kind == Tok::Function && !next.newline {
@@ -41,7 +45,7 @@ fn begins_values(machine: &Machine<'_>) -> bool {
 }
 
 // The one parameter of an `async` arrow function.
-fn async_name(machine: &mut Machine<'_>, arrows: Arrows, place: Place) -> Result<(), Stop> {
+fn async_name(machine: &mut Machine<'_>, arrows: Arrows, place: NodeStart) -> Result<(), Stop> {
     if machine.reader.tok() == Tok::Await {
         return Err(Stop::Await);
     }
@@ -58,7 +62,7 @@ fn async_paren(
     machine: &mut Machine<'_>,
     word: Token,
     arrows: Arrows,
-    place: Place,
+    place: NodeStart,
 ) -> Result<(), Stop> {
     machine.reader.leaf_of(Kind::Ident, 0, word)?;
     machine.behind(State::Arguments {
@@ -73,7 +77,7 @@ pub fn arrow(
     machine: &mut Machine<'_>,
     is_async: bool,
     arrows: Arrows,
-    place: Place,
+    place: NodeStart,
 ) -> Result<(), Stop> {
     if machine.reader.newline() {
         return Err(Stop::Newline);
@@ -87,7 +91,7 @@ pub fn arrow(
     if paused > place.from {
         return Err(machine.reader.refuse(paused - 1, Stop::Await));
     }
-    machine.reader.pattern(place.start, Use::Binds)?;
+    machine.reader.pattern(place.start, PatternUse::Binds)?;
     machine.reader.advance();
     let body = context.arrow(machine.goal, is_async);
     machine.enter(body)?;
@@ -118,7 +122,7 @@ pub fn arrow(
 }
 
 // Whether all parameters, from this place of the list on, are names. It ends at the last one that is not.
-fn has_names(machine: &Machine<'_>, place: Place) -> bool {
+fn has_names(machine: &Machine<'_>, place: NodeStart) -> bool {
     match machine
         .reader
         .records

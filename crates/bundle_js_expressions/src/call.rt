@@ -7,7 +7,7 @@ use bundle_js_machine::machine::Machine;
 use bundle_js_machine::state::{Arrows, State};
 use bundle_js_record::kind::Kind;
 use bundle_js_record::reader::Stop;
-use bundle_js_record::record::Place;
+use bundle_js_record::record::NodeStart;
 use bundle_js_scan::token::Tok;
 
 /// What follows an operand. `calls` says whether calls do, `in_chain` whether `?.` stands before.
@@ -15,7 +15,7 @@ pub fn suffix(
     machine: &mut Machine<'_>,
     calls: bool,
     in_chain: bool,
-    place: Place,
+    place: NodeStart,
 ) -> Result<(), Stop> {
     members(machine, in_chain, place)?;
     let tok = machine.reader.tok();
@@ -45,7 +45,7 @@ pub fn suffix(
 }
 
 // The members behind an operand that are names, each behind its dot.
-fn members(machine: &mut Machine<'_>, in_chain: bool, place: Place) -> Result<(), Stop> {
+fn members(machine: &mut Machine<'_>, in_chain: bool, place: NodeStart) -> Result<(), Stop> {
     for _ in 0..machine.reader.lexer.len() {
         if machine.reader.tok() != Tok::Dot || machine.reader.last_kind() == Kind::ArrowExpr {
             return Ok(());
@@ -58,7 +58,12 @@ fn members(machine: &mut Machine<'_>, in_chain: bool, place: Place) -> Result<()
 }
 
 // A call, at its parenthesis.
-fn call(machine: &mut Machine<'_>, callee: Kind, in_chain: bool, place: Place) -> Result<(), Stop> {
+fn call(
+    machine: &mut Machine<'_>,
+    callee: Kind,
+    in_chain: bool,
+    place: NodeStart,
+) -> Result<(), Stop> {
     machine.reader.advance();
     if callee == Kind::Import {
         let argument = machine.reader.place();
@@ -79,7 +84,7 @@ fn call(machine: &mut Machine<'_>, callee: Kind, in_chain: bool, place: Place) -
 }
 
 // Behind `?.`.
-fn optional(machine: &mut Machine<'_>, place: Place) -> Result<(), Stop> {
+fn optional(machine: &mut Machine<'_>, place: NodeStart) -> Result<(), Stop> {
     match machine.reader.tok() {
         Tok::OpenParen => {
             machine.behind(State::Arguments {
@@ -106,7 +111,7 @@ fn member(
     machine: &mut Machine<'_>,
     in_chain: bool,
     optional: bool,
-    place: Place,
+    place: NodeStart,
 ) -> Result<(), Stop> {
     if machine.reader.tok() == Tok::PrivateName {
         machine.reader.leaf(Kind::PrivateName, 0)?;
@@ -122,7 +127,7 @@ fn index(
     calls: bool,
     in_chain: bool,
     optional: bool,
-    place: Place,
+    place: NodeStart,
 ) -> Result<(), Stop> {
     let index = machine.reader.place();
     machine.reader.advance();
@@ -146,8 +151,8 @@ pub fn index_end(
     calls: bool,
     in_chain: bool,
     optional: bool,
-    index: Place,
-    place: Place,
+    index: NodeStart,
+    place: NodeStart,
 ) -> Result<(), Stop> {
     machine.reader.expect(Tok::CloseBracket)?;
     machine.reader.node(Kind::ComputedPropName, 0, index)?;
@@ -163,7 +168,7 @@ fn end_member(
     machine: &mut Machine<'_>,
     in_chain: bool,
     optional: bool,
-    place: Place,
+    place: NodeStart,
 ) -> Result<(), Stop> {
     machine.reader.field(1);
     machine.reader.node(Kind::MemberExpr, 0, place)?;
@@ -175,7 +180,7 @@ fn end_member(
 }
 
 // A member or a call of an optional chain ends.
-fn end_link(machine: &mut Machine<'_>, optional: bool, place: Place) -> Result<(), Stop> {
+fn end_link(machine: &mut Machine<'_>, optional: bool, place: NodeStart) -> Result<(), Stop> {
     machine.reader.field(1);
     machine
         .reader
@@ -187,7 +192,7 @@ fn tagged(
     machine: &mut Machine<'_>,
     calls: bool,
     in_chain: bool,
-    place: Place,
+    place: NodeStart,
 ) -> Result<(), Stop> {
     if in_chain {
         return Err(Stop::Chain);
@@ -211,7 +216,7 @@ fn tagged(
 }
 
 /// Behind the callee of a `new`.
-pub fn callee(machine: &mut Machine<'_>, place: Place) -> Result<(), Stop> {
+pub fn callee(machine: &mut Machine<'_>, place: NodeStart) -> Result<(), Stop> {
     let last = machine.reader.last();
     match last.kind {
         Kind::Super => return Err(machine.reader.refuse(last.from, Stop::Super)),
@@ -236,7 +241,7 @@ pub fn arguments(
     machine: &mut Machine<'_>,
     kind: Kind,
     optional: bool,
-    place: Place,
+    place: NodeStart,
 ) -> Result<(), Stop> {
     if machine.reader.eat(Tok::CloseParen) {
         return end_call(machine, kind, optional, place);
@@ -259,8 +264,8 @@ pub fn argument_next(
     kind: Kind,
     optional: bool,
     spread: bool,
-    argument: Place,
-    place: Place,
+    argument: NodeStart,
+    place: NodeStart,
 ) -> Result<(), Stop> {
     let goes_on = machine.reader.tok() == Tok::Comma;
     element(machine, spread, goes_on, argument)?;
@@ -276,7 +281,7 @@ pub fn element(
     machine: &mut Machine<'_>,
     spread: bool,
     goes_on: bool,
-    place: Place,
+    place: NodeStart,
 ) -> Result<(), Stop> {
     machine.reader.field(1);
     let op = match (spread, goes_on) {
@@ -292,7 +297,7 @@ fn end_call(
     machine: &mut Machine<'_>,
     kind: Kind,
     optional: bool,
-    place: Place,
+    place: NodeStart,
 ) -> Result<(), Stop> {
     match kind {
         Kind::NewExpr => machine.reader.node(kind, 1, place),
@@ -309,7 +314,7 @@ fn end_call(
 }
 
 // The arguments of `async` have ended, or its parameters. The word is no node then.
-fn end_async(machine: &mut Machine<'_>, no_in: bool, place: Place) -> Result<(), Stop> {
+fn end_async(machine: &mut Machine<'_>, no_in: bool, place: NodeStart) -> Result<(), Stop> {
     if machine.reader.tok() != Tok::Arrow {
         return machine.reader.node(Kind::CallExpr, 0, place);
     }
@@ -318,7 +323,11 @@ fn end_async(machine: &mut Machine<'_>, no_in: bool, place: Place) -> Result<(),
 }
 
 /// Behind the one argument of an `import`.
-pub fn import_end(machine: &mut Machine<'_>, argument: Place, place: Place) -> Result<(), Stop> {
+pub fn import_end(
+    machine: &mut Machine<'_>,
+    argument: NodeStart,
+    place: NodeStart,
+) -> Result<(), Stop> {
     element(machine, false, false, argument)?;
     machine.reader.field(1);
     if machine.reader.tok() == Tok::Comma {

@@ -6,11 +6,11 @@ use bundle_js_machine::machine::Machine;
 use bundle_js_machine::state::State;
 use bundle_js_record::kind::Kind;
 use bundle_js_record::reader::Stop;
-use bundle_js_record::record::{Place, Rec};
+use bundle_js_record::record::{NodeStart, Rec};
 use bundle_js_scan::token::Tok;
 
 /// The next element of an array, or its end.
-pub fn array(machine: &mut Machine<'_>, place: Place) -> Result<(), Stop> {
+pub fn array(machine: &mut Machine<'_>, place: NodeStart) -> Result<(), Stop> {
     match machine.reader.tok() {
         Tok::CloseBracket => {
             machine.reader.advance();
@@ -37,8 +37,8 @@ pub fn array(machine: &mut Machine<'_>, place: Place) -> Result<(), Stop> {
 pub fn array_next(
     machine: &mut Machine<'_>,
     spread: bool,
-    begin: Place,
-    place: Place,
+    begin: NodeStart,
+    place: NodeStart,
 ) -> Result<(), Stop> {
     let goes_on = machine.reader.tok() == Tok::Comma;
     element(machine, spread, goes_on, begin)?;
@@ -54,7 +54,7 @@ pub fn template(
     machine: &mut Machine<'_>,
     is_tagged: bool,
     quasis: u32,
-    place: Place,
+    place: NodeStart,
 ) -> Result<(), Stop> {
     machine.reader.lexer.chunk();
     let token = machine.reader.lexer.token();
@@ -109,7 +109,7 @@ pub fn template_next(
     machine: &mut Machine<'_>,
     is_tagged: bool,
     quasis: u32,
-    place: Place,
+    place: NodeStart,
 ) -> Result<(), Stop> {
     if machine.reader.tok() == Tok::CloseBrace {
         template(machine, is_tagged, quasis, place)

@@ -1,7 +1,7 @@
 //! The numbers by which records hold operators.
 
 use bundle_js_scan::token::Tok;
-use bundle_tree_leaf::{AssignOp, BinaryOp, UnaryOp};
+use bundle_syntax::{AssignOp, BinaryOp, UnaryOp};
 
 /// The number of the operator between two operands (ECMA-262, 13.6 to 13.13).
 pub fn binary_number(tok: Tok) -> u8 {

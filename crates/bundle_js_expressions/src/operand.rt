@@ -6,7 +6,7 @@ use bundle_js_machine::machine::Machine;
 use bundle_js_machine::state::{Arrows, State};
 use bundle_js_record::kind::Kind;
 use bundle_js_record::reader::Stop;
-use bundle_js_record::record::Place;
+use bundle_js_record::record::NodeStart;
 use bundle_js_scan::lexer::Goal;
 use bundle_js_scan::token::Tok;
 
@@ -41,7 +41,7 @@ pub fn operand(machine: &mut Machine<'_>) -> Result<(), Stop> {
 }
 
 // An operand that is a name or begins with a word.
-fn word_operand(machine: &mut Machine<'_>, place: Place) -> Result<(), Stop> {
+fn word_operand(machine: &mut Machine<'_>, place: NodeStart) -> Result<(), Stop> {
     match machine.reader.tok() {
         Tok::Function => {
             machine.then(State::Function {
@@ -67,7 +67,7 @@ fn word_operand(machine: &mut Machine<'_>, place: Place) -> Result<(), Stop> {
 }
 
 // A name, or the one parameter of an arrow function.
-fn name(machine: &mut Machine<'_>, place: Place) -> Result<(), Stop> {
+fn name(machine: &mut Machine<'_>, place: NodeStart) -> Result<(), Stop> {
     machine.reference(Kind::Ident)?;
     let arrows = arrows(machine, place);
     if machine.reader.tok() == Tok::Arrow && arrows != Arrows::Never {
@@ -78,7 +78,7 @@ fn name(machine: &mut Machine<'_>, place: Place) -> Result<(), Stop> {
 }
 
 // Whether an arrow function may begin at the place: where an assignment does.
-fn arrows(machine: &Machine<'_>, place: Place) -> Arrows {
+fn arrows(machine: &Machine<'_>, place: NodeStart) -> Arrows {
     if place.from != machine.assignment {
         Arrows::Never
     } else {
@@ -96,7 +96,7 @@ fn regex(machine: &mut Machine<'_>) -> Result<(), Stop> {
 }
 
 // `new` and its callee, or `new.target`.
-fn new_operand(machine: &mut Machine<'_>, place: Place) -> Result<(), Stop> {
+fn new_operand(machine: &mut Machine<'_>, place: NodeStart) -> Result<(), Stop> {
     machine.reader.advance();
     if machine.reader.eat(Tok::Dot) {
         machine.reader.expect(Tok::Target)?;
@@ -118,7 +118,7 @@ fn new_operand(machine: &mut Machine<'_>, place: Place) -> Result<(), Stop> {
 }
 
 // `super` in a call, or a property of it.
-fn super_operand(machine: &mut Machine<'_>, place: Place) -> Result<(), Stop> {
+fn super_operand(machine: &mut Machine<'_>, place: NodeStart) -> Result<(), Stop> {
     machine.reader.advance();
     let index = machine.reader.place();
     match machine.reader.tok() {
@@ -147,7 +147,7 @@ fn super_operand(machine: &mut Machine<'_>, place: Place) -> Result<(), Stop> {
 }
 
 // `import` in a call, or `import.meta`.
-fn import_operand(machine: &mut Machine<'_>, place: Place) -> Result<(), Stop> {
+fn import_operand(machine: &mut Machine<'_>, place: NodeStart) -> Result<(), Stop> {
     machine.reader.advance();
     match machine.reader.tok() {
         Tok::OpenParen => machine.reader.node(Kind::Import, 0, place),

@@ -6,11 +6,11 @@ use crate::number::{assign_number, binary_number, unary_number};
 use bundle_js_machine::machine::Machine;
 use bundle_js_machine::state::{Arrows, State};
 use bundle_js_record::kind::Kind;
-use bundle_js_record::pattern::Use;
+use bundle_js_record::pattern::PatternUse;
 use bundle_js_record::reader::Stop;
-use bundle_js_record::record::{Place, Rec};
+use bundle_js_record::record::{NodeStart, Rec};
 use bundle_js_scan::token::{Tok, is_assign, is_prefix, power};
-use bundle_tree_leaf::BinaryOp;
+use bundle_syntax::BinaryOp;
 
 /// An expression.
 pub fn expression(machine: &mut Machine<'_>, no_in: bool) -> Result<(), Stop> {
@@ -24,7 +24,12 @@ pub fn expression(machine: &mut Machine<'_>, no_in: bool) -> Result<(), Stop> {
 }
 
 /// Behind a part of an expression that commas may follow.
-pub fn comma(machine: &mut Machine<'_>, no_in: bool, many: bool, place: Place) -> Result<(), Stop> {
+pub fn comma(
+    machine: &mut Machine<'_>,
+    no_in: bool,
+    many: bool,
+    place: NodeStart,
+) -> Result<(), Stop> {
     if machine.reader.eat(Tok::Comma) {
         machine.both(
             State::Assignment { no_in },
@@ -97,7 +102,7 @@ fn ends_operand(machine: &Machine<'_>) -> bool {
 }
 
 // `yield`, and what it yields, which begins on the same line (15.5).
-fn yield_operator(machine: &mut Machine<'_>, no_in: bool, place: Place) -> Result<(), Stop> {
+fn yield_operator(machine: &mut Machine<'_>, no_in: bool, place: NodeStart) -> Result<(), Stop> {
     machine.context.paused = place.from.saturating_add(1);
     machine.reader.advance();
     let delegates = !machine.reader.newline() && machine.reader.eat(Tok::Star);
@@ -152,7 +157,7 @@ fn simple(machine: &mut Machine<'_>) -> Result<(), Stop> {
 }
 
 // Behind what may be a condition, or what is assigned to.
-fn assignment_rest(machine: &mut Machine<'_>, no_in: bool, place: Place) -> Result<(), Stop> {
+fn assignment_rest(machine: &mut Machine<'_>, no_in: bool, place: NodeStart) -> Result<(), Stop> {
     let tok = machine.reader.tok();
     let last = machine.reader.last();
     if last.kind == Kind::ArrowExpr {
@@ -171,7 +176,7 @@ fn assignment_rest(machine: &mut Machine<'_>, no_in: bool, place: Place) -> Resu
     }
     match last.kind {
         Kind::ArrayLit | Kind::ObjectLit if tok == Tok::Assign => {
-            machine.reader.pattern(place.start, Use::Assigns)?;
+            machine.reader.pattern(place.start, PatternUse::Assigns)?;
         }
         _ => {
             simple(machine)?;
@@ -194,7 +199,7 @@ fn assignment_rest(machine: &mut Machine<'_>, no_in: bool, place: Place) -> Resu
 }
 
 /// Behind the second part of a conditional.
-pub fn otherwise(machine: &mut Machine<'_>, no_in: bool, place: Place) -> Result<(), Stop> {
+pub fn otherwise(machine: &mut Machine<'_>, no_in: bool, place: NodeStart) -> Result<(), Stop> {
     machine.reader.field(1);
     machine.reader.expect(Tok::Colon)?;
     machine.both(
@@ -210,7 +215,12 @@ pub fn otherwise(machine: &mut Machine<'_>, no_in: bool, place: Place) -> Result
 
 /// Behind an operand that binary operators may follow which bind more tightly than `least`. Where that is 0, the
 /// operand is what may be a condition, or be assigned to.
-pub fn infix(machine: &mut Machine<'_>, no_in: bool, least: u8, place: Place) -> Result<(), Stop> {
+pub fn infix(
+    machine: &mut Machine<'_>,
+    no_in: bool,
+    least: u8,
+    place: NodeStart,
+) -> Result<(), Stop> {
     let tok = machine.reader.tok();
     if power(tok) > least && !(no_in && tok == Tok::In) {
         return binary(machine, no_in, least, place);
@@ -230,7 +240,7 @@ pub fn infix(machine: &mut Machine<'_>, no_in: bool, least: u8, place: Place) ->
 }
 
 // At a binary operator behind its left operand.
-fn binary(machine: &mut Machine<'_>, no_in: bool, least: u8, place: Place) -> Result<(), Stop> {
+fn binary(machine: &mut Machine<'_>, no_in: bool, least: u8, place: NodeStart) -> Result<(), Stop> {
     let tok = machine.reader.tok();
     let left = machine.reader.last();
     if left.kind == Kind::ArrowExpr {
@@ -321,7 +331,7 @@ pub fn unary(machine: &mut Machine<'_>) -> Result<(), Stop> {
 }
 
 // An operator before its operand.
-fn prefix(machine: &mut Machine<'_>, tok: Tok, place: Place) -> Result<(), Stop> {
+fn prefix(machine: &mut Machine<'_>, tok: Tok, place: NodeStart) -> Result<(), Stop> {
     machine.reader.advance();
     let end = if tok == Tok::Delete {
         State::Deleted(place)
@@ -337,7 +347,7 @@ fn prefix(machine: &mut Machine<'_>, tok: Tok, place: Place) -> Result<(), Stop>
 }
 
 // `await` and what it waits for (15.8).
-fn await_operator(machine: &mut Machine<'_>, place: Place) -> Result<(), Stop> {
+fn await_operator(machine: &mut Machine<'_>, place: NodeStart) -> Result<(), Stop> {
     if machine.reader.lexer.token().escaped {
         return Err(Stop::Await);
     }
@@ -355,7 +365,7 @@ fn await_operator(machine: &mut Machine<'_>, place: Place) -> Result<(), Stop> {
 }
 
 // A private name before `in`, the left operand of nothing that binds more tightly (13.10).
-fn private_name(machine: &mut Machine<'_>, place: Place) -> Result<(), Stop> {
+fn private_name(machine: &mut Machine<'_>, place: NodeStart) -> Result<(), Stop> {
     let may_stand = match machine.states.as_slice().last() {
         Some(
             State::Infix {
@@ -373,7 +383,7 @@ fn private_name(machine: &mut Machine<'_>, place: Place) -> Result<(), Stop> {
 }
 
 /// Behind the operand of `delete`, which is neither a name nor a private member (13.5.1.1).
-pub fn deleted(machine: &mut Machine<'_>, place: Place) -> Result<(), Stop> {
+pub fn deleted(machine: &mut Machine<'_>, place: NodeStart) -> Result<(), Stop> {
     if is_kept(machine, machine.reader.records.len()) {
         return Err(machine.reader.refuse(place.from, Stop::Delete));
     }
@@ -399,14 +409,14 @@ fn is_kept(machine: &Machine<'_>, end: usize) -> bool {
 }
 
 /// Behind the operand of `++` or `--` before it.
-pub fn counted(machine: &mut Machine<'_>, op: u8, place: Place) -> Result<(), Stop> {
+pub fn counted(machine: &mut Machine<'_>, op: u8, place: NodeStart) -> Result<(), Stop> {
     simple(machine)?;
     machine.reader.field(2);
     machine.reader.node(Kind::UpdateExpr, op, place)
 }
 
 /// Behind an operand that may be counted up or down.
-pub fn postfix(machine: &mut Machine<'_>, place: Place) -> Result<(), Stop> {
+pub fn postfix(machine: &mut Machine<'_>, place: NodeStart) -> Result<(), Stop> {
     let op = match machine.reader.tok() {
         Tok::PlusPlus => 0,
         Tok::MinusMinus => 1,

@@ -5,7 +5,7 @@ use bundle_js_machine::machine::Machine;
 use bundle_js_machine::state::{Arrows, State};
 use bundle_js_record::kind::Kind;
 use bundle_js_record::reader::Stop;
-use bundle_js_record::record::Place;
+use bundle_js_record::record::NodeStart;
 use bundle_js_scan::token::Tok;
 
 /// What stands in parentheses, from here on.
@@ -13,7 +13,7 @@ pub fn paren(
     machine: &mut Machine<'_>,
     many: bool,
     arrows: Arrows,
-    place: Place,
+    place: NodeStart,
 ) -> Result<(), Stop> {
     if arrows != Arrows::Never && machine.reader.tok() == Tok::CloseParen {
         machine.reader.advance();
@@ -37,7 +37,7 @@ pub fn paren(
 }
 
 // Behind what can only be the parameters of an arrow function.
-fn parameters(machine: &mut Machine<'_>, arrows: Arrows, place: Place) -> Result<(), Stop> {
+fn parameters(machine: &mut Machine<'_>, arrows: Arrows, place: NodeStart) -> Result<(), Stop> {
     if machine.reader.tok() == Tok::Arrow {
         arrow(machine, false, arrows, place)
     } else {
@@ -49,8 +49,8 @@ fn parameters(machine: &mut Machine<'_>, arrows: Arrows, place: Place) -> Result
 pub fn paren_rest(
     machine: &mut Machine<'_>,
     arrows: Arrows,
-    rest: Place,
-    place: Place,
+    rest: NodeStart,
+    place: NodeStart,
 ) -> Result<(), Stop> {
     machine.reader.node(Kind::ExprOrSpread, 1, rest)?;
     machine.reader.expect(Tok::CloseParen)?;
@@ -62,7 +62,7 @@ pub fn paren_next(
     machine: &mut Machine<'_>,
     many: bool,
     arrows: Arrows,
-    place: Place,
+    place: NodeStart,
 ) -> Result<(), Stop> {
     if machine.reader.eat(Tok::Comma) {
         return machine.then(State::Paren {

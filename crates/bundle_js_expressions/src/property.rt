@@ -3,14 +3,14 @@
 use crate::operator::assignment;
 use bundle_js_machine::context::Home;
 use bundle_js_machine::machine::Machine;
-use bundle_js_machine::state::{Part, Signature, State};
+use bundle_js_machine::state::{FunctionKind, Signature, State};
 use bundle_js_record::kind::Kind;
 use bundle_js_record::reader::Stop;
-use bundle_js_record::record::Place;
+use bundle_js_record::record::NodeStart;
 use bundle_js_scan::token::Tok;
 
 /// The next property of an object, or its end.
-pub fn object(machine: &mut Machine<'_>, place: Place) -> Result<(), Stop> {
+pub fn object(machine: &mut Machine<'_>, place: NodeStart) -> Result<(), Stop> {
     if machine.reader.eat(Tok::CloseBrace) {
         return machine.reader.node(Kind::ObjectLit, 0, place);
     }
@@ -19,7 +19,7 @@ pub fn object(machine: &mut Machine<'_>, place: Place) -> Result<(), Stop> {
 }
 
 /// Behind a property of an object.
-pub fn object_next(machine: &mut Machine<'_>, place: Place) -> Result<(), Stop> {
+pub fn object_next(machine: &mut Machine<'_>, place: NodeStart) -> Result<(), Stop> {
     if machine.reader.tok() != Tok::CloseBrace {
         if machine.reader.tok() == Tok::Comma && machine.reader.last_kind() == Kind::SpreadElement {
             machine.reader.mark(2);
@@ -51,7 +51,7 @@ fn property(machine: &mut Machine<'_>) -> Result<(), Stop> {
     key(machine, signature, place)
 }
 
-fn spread(machine: &mut Machine<'_>, place: Place) -> Result<(), Stop> {
+fn spread(machine: &mut Machine<'_>, place: NodeStart) -> Result<(), Stop> {
     machine.reader.advance();
     machine.both(
         State::Assignment { no_in: false },
@@ -82,14 +82,14 @@ fn modified(machine: &mut Machine<'_>, word: Tok, signature: &mut Signature) -> 
             signature.is_async = true;
             signature.is_generator = machine.reader.eat(Tok::Star);
         }
-        Tok::Get => signature.part = Part::Getter,
-        _ => signature.part = Part::Setter,
+        Tok::Get => signature.kind = FunctionKind::Getter,
+        _ => signature.kind = FunctionKind::Setter,
     }
     Ok(())
 }
 
 // The key of a property.
-fn key(machine: &mut Machine<'_>, signature: Signature, place: Place) -> Result<(), Stop> {
+fn key(machine: &mut Machine<'_>, signature: Signature, place: NodeStart) -> Result<(), Stop> {
     match machine.reader.tok() {
         Tok::OpenBracket => {
             let begin = machine.reader.place();
@@ -113,7 +113,7 @@ fn key(machine: &mut Machine<'_>, signature: Signature, place: Place) -> Result<
 }
 
 // A property whose key is a name, and which may be no more than the name.
-fn named(machine: &mut Machine<'_>, place: Place) -> Result<(), Stop> {
+fn named(machine: &mut Machine<'_>, place: NodeStart) -> Result<(), Stop> {
     let tok = machine.reader.tok();
     if !machine.is_name(tok) {
         let is_alone = matches!(
@@ -148,13 +148,13 @@ fn named(machine: &mut Machine<'_>, place: Place) -> Result<(), Stop> {
 }
 
 /// Behind the value of a property that only a pattern may hold.
-pub fn cover(machine: &mut Machine<'_>, equals: u32, place: Place) -> Result<(), Stop> {
+pub fn cover(machine: &mut Machine<'_>, equals: u32, place: NodeStart) -> Result<(), Stop> {
     machine.reader.field(1);
     machine.reader.node_with(Kind::Cover, 0, equals, place)
 }
 
 /// Behind the expression of a computed key.
-pub fn key_end(machine: &mut Machine<'_>, place: Place) -> Result<(), Stop> {
+pub fn key_end(machine: &mut Machine<'_>, place: NodeStart) -> Result<(), Stop> {
     machine.reader.expect(Tok::CloseBracket)?;
     machine.reader.node(Kind::ComputedPropName, 0, place)
 }
@@ -163,7 +163,7 @@ pub fn key_end(machine: &mut Machine<'_>, place: Place) -> Result<(), Stop> {
 pub fn property_key(
     machine: &mut Machine<'_>,
     signature: Signature,
-    place: Place,
+    place: NodeStart,
 ) -> Result<(), Stop> {
     if machine.reader.tok() == Tok::Colon && signature.is_plain() {
         machine.reader.advance();
@@ -175,9 +175,9 @@ pub fn property_key(
         })?;
         return assignment(machine, false);
     }
-    let (kind, field) = match signature.part {
-        Part::Getter => (Kind::GetterProp, 1),
-        Part::Setter => (Kind::SetterProp, 2),
+    let (kind, field) = match signature.kind {
+        FunctionKind::Getter => (Kind::GetterProp, 1),
+        FunctionKind::Setter => (Kind::SetterProp, 2),
         _ => (Kind::MethodProp, 1),
     };
     let end = State::Node {

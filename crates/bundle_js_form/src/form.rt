@@ -1,6 +1,6 @@
 //! The form of a text, or why it has none.
 
-use bundle_js_read::{Goal, Position, Source, position_at};
+use bundle_js_read::{Goal, Position, SourceModule, position_at};
 use bundle_json_form::push_tree;
 use std::alloc::{AllocError, Global};
 use std::env;
@@ -49,7 +49,7 @@ pub fn outcome_of(alloc: Global, bytes: &[u8], goal: Goal) -> Result<Outcome, Al
         Ok(text) => text,
         Err(error) => return refused_bytes(alloc, bytes, error.valid_up_to()),
     };
-    let source = match Source::read(alloc, text, goal) {
+    let source = match SourceModule::read(alloc, text, goal) {
         Ok(source) => source,
         Err(error) => {
             return Ok(Outcome::Refused(line_of(alloc, text, error.at as usize, error.kind)?));

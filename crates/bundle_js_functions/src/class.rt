@@ -2,18 +2,18 @@
 
 use bundle_js_machine::context::{Context, Home};
 use bundle_js_machine::machine::Machine;
-use bundle_js_machine::state::{Part, Signature, State};
+use bundle_js_machine::state::{FunctionKind, Signature, State};
 use bundle_js_record::kind::Kind;
 use bundle_js_record::reader::Stop;
-use bundle_js_record::record::{Place, Rec};
+use bundle_js_record::record::{NodeStart, Rec};
 use bundle_js_scan::token::Tok;
-use bundle_tree_leaf::MethodKind;
+use bundle_syntax::MethodKind;
 
 // What is added to the number of a member that is static.
 const STATIC: u8 = 4;
 
 /// A class of this kind, a declaration or an expression, at its word.
-pub fn class(machine: &mut Machine<'_>, kind: Kind, place: Place) -> Result<(), Stop> {
+pub fn class(machine: &mut Machine<'_>, kind: Kind, place: NodeStart) -> Result<(), Stop> {
     machine.reader.advance();
     let is_named = !matches!(machine.reader.tok(), Tok::OpenBrace | Tok::Extends);
     if kind == Kind::ClassDecl || is_named {
@@ -46,7 +46,7 @@ pub fn class(machine: &mut Machine<'_>, kind: Kind, place: Place) -> Result<(), 
 }
 
 /// Behind the class that a class extends.
-pub fn heritage(machine: &mut Machine<'_>, place: Place) -> Result<(), Stop> {
+pub fn heritage(machine: &mut Machine<'_>, place: NodeStart) -> Result<(), Stop> {
     machine.reader.field(0);
     machine.reader.expect(Tok::OpenBrace)?;
     machine.then(State::Members {
@@ -56,7 +56,7 @@ pub fn heritage(machine: &mut Machine<'_>, place: Place) -> Result<(), Stop> {
 }
 
 /// The next member of a class, or its end.
-pub fn members(machine: &mut Machine<'_>, is_derived: bool, place: Place) -> Result<(), Stop> {
+pub fn members(machine: &mut Machine<'_>, is_derived: bool, place: NodeStart) -> Result<(), Stop> {
     match machine.reader.tok() {
         Tok::Semicolon => machine.behind(State::Members { is_derived, place }),
         Tok::CloseBrace => {
@@ -71,7 +71,11 @@ pub fn members(machine: &mut Machine<'_>, is_derived: bool, place: Place) -> Res
 }
 
 /// Behind a member of a class.
-pub fn member_next(machine: &mut Machine<'_>, is_derived: bool, place: Place) -> Result<(), Stop> {
+pub fn member_next(
+    machine: &mut Machine<'_>,
+    is_derived: bool,
+    place: NodeStart,
+) -> Result<(), Stop> {
     machine.reader.field(1);
     machine.then(State::Members { is_derived, place })
 }
@@ -120,10 +124,10 @@ fn modifiers(machine: &mut Machine<'_>) -> Signature {
         }
         Tok::Get | Tok::Set if !is_key(machine) && machine.reader.peek().kind != Tok::Star => {
             machine.reader.advance();
-            signature.part = if word == Tok::Get {
-                Part::ClassGetter
+            signature.kind = if word == Tok::Get {
+                FunctionKind::ClassGetter
             } else {
-                Part::ClassSetter
+                FunctionKind::ClassSetter
             };
         }
         _ => {}
@@ -131,7 +135,7 @@ fn modifiers(machine: &mut Machine<'_>) -> Signature {
     signature
 }
 
-fn static_block(machine: &mut Machine<'_>, place: Place) -> Result<(), Stop> {
+fn static_block(machine: &mut Machine<'_>, place: NodeStart) -> Result<(), Stop> {
     let block = machine.reader.place();
     machine.reader.advance();
     machine.enter(Context::static_block())?;
@@ -183,7 +187,7 @@ pub fn member_key(
     signature: Signature,
     is_static: bool,
     is_derived: bool,
-    place: Place,
+    place: NodeStart,
 ) -> Result<(), Stop> {
     let key = machine.reader.last();
     let is_private = key.kind == Kind::PrivateName;
@@ -215,9 +219,9 @@ pub fn member_key(
 
 // What stands in the record of a method.
 fn method_op(signature: Signature, is_static: bool) -> u8 {
-    let kind = match signature.part {
-        Part::ClassGetter => MethodKind::Getter,
-        Part::ClassSetter => MethodKind::Setter,
+    let kind = match signature.kind {
+        FunctionKind::ClassGetter => MethodKind::Getter,
+        FunctionKind::ClassSetter => MethodKind::Setter,
         _ => MethodKind::Method,
     };
     if is_static {
@@ -232,7 +236,7 @@ fn constructor(
     machine: &mut Machine<'_>,
     signature: Signature,
     is_derived: bool,
-    place: Place,
+    place: NodeStart,
 ) -> Result<(), Stop> {
     if !signature.is_plain() {
         let key = machine.reader.last();
@@ -240,7 +244,7 @@ fn constructor(
     }
     machine.reader.rename(Kind::Gone);
     let signature = Signature {
-        part: Part::Constructor,
+        kind: FunctionKind::Constructor,
         ..signature
     };
     let home = if is_derived {
@@ -262,7 +266,7 @@ fn field(
     machine: &mut Machine<'_>,
     constructs: bool,
     is_static: bool,
-    place: Place,
+    place: NodeStart,
 ) -> Result<(), Stop> {
     let key = machine.reader.last();
     if constructs {

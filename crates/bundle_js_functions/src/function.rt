@@ -2,15 +2,15 @@
 
 use bundle_js_machine::context::{Context, Home};
 use bundle_js_machine::machine::Machine;
-use bundle_js_machine::state::{Part, Signature, State};
+use bundle_js_machine::state::{FunctionKind, Signature, State};
 use bundle_js_record::kind::Kind;
-use bundle_js_record::pattern::Use;
+use bundle_js_record::pattern::PatternUse;
 use bundle_js_record::reader::Stop;
-use bundle_js_record::record::Place;
+use bundle_js_record::record::NodeStart;
 use bundle_js_scan::token::Tok;
 
 /// A function of this kind, a declaration or an expression, at its first word.
-pub fn function(machine: &mut Machine<'_>, kind: Kind, place: Place) -> Result<(), Stop> {
+pub fn function(machine: &mut Machine<'_>, kind: Kind, place: NodeStart) -> Result<(), Stop> {
     let is_async = machine.reader.eat(Tok::Async);
     machine.reader.expect(Tok::Function)?;
     let is_generator = machine.reader.eat(Tok::Star);
@@ -48,17 +48,17 @@ fn name(machine: &mut Machine<'_>, kind: Kind, is_async: bool) -> Result<(), Sto
 pub fn parameters(
     machine: &mut Machine<'_>,
     signature: Signature,
-    place: Place,
+    place: NodeStart,
 ) -> Result<(), Stop> {
     let param = machine.reader.place();
     if machine.reader.eat(Tok::CloseParen) {
-        if signature.part.is_setter() {
+        if signature.kind.is_setter() {
             return Err(refuse_accessor(machine));
         }
         return body(machine, signature, place);
     }
     let is_rest = machine.reader.eat(Tok::Dots);
-    if signature.part.is_getter() || (is_rest && signature.part.is_setter()) {
+    if signature.kind.is_getter() || (is_rest && signature.kind.is_setter()) {
         return Err(refuse_accessor(machine));
     }
     machine.both(
@@ -88,19 +88,19 @@ pub fn parameter_next(
     machine: &mut Machine<'_>,
     signature: Signature,
     is_rest: bool,
-    param: Place,
-    place: Place,
+    param: NodeStart,
+    place: NodeStart,
 ) -> Result<(), Stop> {
     if is_rest {
         machine.reader.node(Kind::ExprOrSpread, 1, param)?;
     }
-    machine.reader.pattern(param.start, Use::Binds)?;
+    machine.reader.pattern(param.start, PatternUse::Binds)?;
     let is_name = machine.reader.last_kind() == Kind::BindingIdent;
     let signature = Signature {
         is_simple: signature.is_simple && is_name,
         ..signature
     };
-    if signature.part == Part::Setter {
+    if signature.kind == FunctionKind::Setter {
         machine.reader.field(1);
     } else {
         machine.reader.node(Kind::Param, 0, param)?;
@@ -109,7 +109,7 @@ pub fn parameter_next(
     if !is_last {
         machine.reader.expect(Tok::Comma)?;
     }
-    if is_last || signature.part.is_setter() {
+    if is_last || signature.kind.is_setter() {
         end_parameters(machine, signature, place)
     } else {
         machine.then(State::Params { signature, place })
@@ -120,11 +120,11 @@ pub fn parameter_next(
 fn end_parameters(
     machine: &mut Machine<'_>,
     signature: Signature,
-    place: Place,
+    place: NodeStart,
 ) -> Result<(), Stop> {
     if machine.reader.eat(Tok::CloseParen) {
         body(machine, signature, place)
-    } else if signature.part.is_setter() {
+    } else if signature.kind.is_setter() {
         Err(refuse_accessor(machine))
     } else {
         Err(machine.reader.unexpected())
@@ -132,7 +132,7 @@ fn end_parameters(
 }
 
 // The body of a function whose parameters have ended.
-fn body(machine: &mut Machine<'_>, signature: Signature, place: Place) -> Result<(), Stop> {
+fn body(machine: &mut Machine<'_>, signature: Signature, place: NodeStart) -> Result<(), Stop> {
     let begin = machine.reader.place();
     machine.reader.expect(Tok::OpenBrace)?;
     machine.context = machine
@@ -143,7 +143,7 @@ fn body(machine: &mut Machine<'_>, signature: Signature, place: Place) -> Result
         directives: !signature.is_simple,
         place: begin,
     };
-    if signature.part.is_bare() {
+    if signature.kind.is_bare() {
         machine.then(statements)
     } else {
         machine.both(

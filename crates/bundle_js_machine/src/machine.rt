@@ -4,7 +4,7 @@ use crate::context::{Context, Home};
 use crate::state::{Signature, State};
 use bundle_js_record::kind::Kind;
 use bundle_js_record::reader::{Reader, Stop};
-use bundle_js_record::record::{Place, Rec};
+use bundle_js_record::record::{NodeStart, Rec};
 use bundle_js_scan::lexer::Goal;
 use bundle_js_scan::token::{Tok, is_name, is_word};
 
@@ -106,7 +106,7 @@ impl Machine<'_> {
     }
 
     /// What stands in the record of a name that stands for what is bound to it.
-    pub fn reference_op(&mut self, tok: Tok, place: Place) -> Result<u8, Stop> {
+    pub fn reference_op(&mut self, tok: Tok, place: NodeStart) -> Result<u8, Stop> {
         match tok {
             Tok::Arguments if !self.context.has_arguments => Err(Stop::Arguments),
             Tok::Eval | Tok::Arguments => Ok(1),
@@ -128,7 +128,7 @@ impl Machine<'_> {
     }
 
     /// A node of this kind ends behind a semicolon, which may be left out.
-    pub fn ends(&mut self, kind: Kind, op: u8, place: Place) -> Result<(), Stop> {
+    pub fn ends(&mut self, kind: Kind, op: u8, place: NodeStart) -> Result<(), Stop> {
         self.reader.semicolon()?;
         self.reader.node(kind, op, place)
     }

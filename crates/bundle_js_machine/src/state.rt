@@ -2,11 +2,11 @@
 
 use crate::context::Context;
 use bundle_js_record::kind::Kind;
-use bundle_js_record::record::Place;
+use bundle_js_record::record::NodeStart;
 
 /// Where a statement stands, for what may stand there.
 #[derive(Clone, Copy, PartialEq, Eq)]
-pub enum Spot {
+pub enum StatementPosition {
     /// At the top of a module, where imports and exports stand.
     Top,
     /// In a list of statements.
@@ -15,9 +15,9 @@ pub enum Spot {
     Single,
 }
 
-/// What a function with parameters in parentheses is part of.
+/// What a function with parameters in parentheses is.
 #[derive(Clone, Copy, PartialEq, Eq)]
-pub enum Part {
+pub enum FunctionKind {
     /// A function, or a method.
     Function,
     /// A getter of an object, which has no node of a function.
@@ -37,7 +37,7 @@ pub enum Part {
 pub struct Signature {
     pub is_generator: bool,
     pub is_async: bool,
-    pub part: Part,
+    pub kind: FunctionKind,
     /// Whether its parameters are plain names.
     pub is_simple: bool,
 }
@@ -64,58 +64,58 @@ pub enum State {
         kind: Kind,
         op: u8,
         field: u8,
-        place: Place,
+        place: NodeStart,
     },
     /// A node of this kind ends behind a semicolon, which may be left out.
     Ends {
         kind: Kind,
         op: u8,
-        place: Place,
+        place: NodeStart,
     },
     /// This context holds again.
     Leave(Context),
 
     // Statements.
-    Statement(Spot),
+    Statement(StatementPosition),
     Statements {
         kind: Kind,
         directives: bool,
-        place: Place,
+        place: NodeStart,
     },
-    ExpressionEnd(Place),
-    IfThen(Place),
-    IfElse(Place),
+    ExpressionEnd(NodeStart),
+    IfThen(NodeStart),
+    IfElse(NodeStart),
     Body {
         kind: Kind,
         op: u8,
         field: u8,
-        place: Place,
+        place: NodeStart,
     },
-    DoTest(Place),
-    DoEnd(Place),
+    DoTest(NodeStart),
+    DoEnd(NodeStart),
     ForHead {
         awaits: bool,
-        place: Place,
+        place: NodeStart,
     },
-    ForTest(Place),
-    ForUpdate(Place),
-    Switch(Place),
+    ForTest(NodeStart),
+    ForUpdate(NodeStart),
+    Switch(NodeStart),
     Cases {
         has_default: bool,
-        place: Place,
+        place: NodeStart,
     },
-    CaseTest(Place),
-    Consequent(Place),
-    Try(Place),
+    CaseTest(NodeStart),
+    Consequent(NodeStart),
+    Try(NodeStart),
     Catch {
-        clause: Place,
-        place: Place,
+        clause: NodeStart,
+        place: NodeStart,
     },
     CatchBody {
-        clause: Place,
-        place: Place,
+        clause: NodeStart,
+        place: NodeStart,
     },
-    Finally(Place),
+    Finally(NodeStart),
     Declarators {
         is_const: bool,
         no_in: bool,
@@ -123,7 +123,7 @@ pub enum State {
     Declarator {
         is_const: bool,
         no_in: bool,
-        place: Place,
+        place: NodeStart,
     },
     DeclaratorNext {
         is_const: bool,
@@ -131,42 +131,42 @@ pub enum State {
     },
 
     // Modules.
-    ImportNames(Place),
-    ExportNames(Place),
+    ImportNames(NodeStart),
+    ExportNames(NodeStart),
 
     // Functions and classes.
     Function {
         kind: Kind,
-        place: Place,
+        place: NodeStart,
     },
     Params {
         signature: Signature,
-        place: Place,
+        place: NodeStart,
     },
     ParamNext {
         signature: Signature,
         is_rest: bool,
-        param: Place,
-        place: Place,
+        param: NodeStart,
+        place: NodeStart,
     },
     Class {
         kind: Kind,
-        place: Place,
+        place: NodeStart,
     },
-    Heritage(Place),
+    Heritage(NodeStart),
     Members {
         is_derived: bool,
-        place: Place,
+        place: NodeStart,
     },
     MemberNext {
         is_derived: bool,
-        place: Place,
+        place: NodeStart,
     },
     MemberKey {
         signature: Signature,
         is_static: bool,
         is_derived: bool,
-        place: Place,
+        place: NodeStart,
     },
 
     // Expressions.
@@ -176,94 +176,94 @@ pub enum State {
     Comma {
         no_in: bool,
         many: bool,
-        place: Place,
+        place: NodeStart,
     },
     Assignment {
         no_in: bool,
     },
     Else {
         no_in: bool,
-        place: Place,
+        place: NodeStart,
     },
     Infix {
         no_in: bool,
         least: u8,
-        place: Place,
+        place: NodeStart,
     },
     Unary,
-    Deleted(Place),
+    Deleted(NodeStart),
     Counted {
         op: u8,
-        place: Place,
+        place: NodeStart,
     },
-    Postfix(Place),
+    Postfix(NodeStart),
     Operand,
     Suffix {
         calls: bool,
         in_chain: bool,
-        place: Place,
+        place: NodeStart,
     },
     Index {
         kind: Kind,
         calls: bool,
         in_chain: bool,
         optional: bool,
-        index: Place,
-        place: Place,
+        index: NodeStart,
+        place: NodeStart,
     },
-    Callee(Place),
+    Callee(NodeStart),
     Arguments {
         kind: Kind,
         optional: bool,
-        place: Place,
+        place: NodeStart,
     },
     ArgumentNext {
         kind: Kind,
         optional: bool,
         spread: bool,
-        argument: Place,
-        place: Place,
+        argument: NodeStart,
+        place: NodeStart,
     },
     ImportEnd {
-        argument: Place,
-        place: Place,
+        argument: NodeStart,
+        place: NodeStart,
     },
     Paren {
         many: bool,
         arrows: Arrows,
-        place: Place,
+        place: NodeStart,
     },
     ParenNext {
         many: bool,
         arrows: Arrows,
-        place: Place,
+        place: NodeStart,
     },
     ParenRest {
         arrows: Arrows,
-        rest: Place,
-        place: Place,
+        rest: NodeStart,
+        place: NodeStart,
     },
-    Array(Place),
+    Array(NodeStart),
     ArrayNext {
         spread: bool,
-        element: Place,
-        place: Place,
+        element: NodeStart,
+        place: NodeStart,
     },
-    Object(Place),
-    ObjectNext(Place),
-    KeyEnd(Place),
+    Object(NodeStart),
+    ObjectNext(NodeStart),
+    KeyEnd(NodeStart),
     Cover {
         equals: u32,
-        place: Place,
+        place: NodeStart,
     },
     PropertyKey {
         signature: Signature,
-        place: Place,
+        place: NodeStart,
     },
     Template {
         is_tagged: bool,
         quasis: u32,
-        place: Place,
+        place: NodeStart,
     },
 }
 
@@ -274,20 +274,23 @@ impl Arrows {
     }
 }
 
-impl Part {
+impl FunctionKind {
     /// Whether the parameters and the body stand in the node around them, and in no node of a function.
     pub fn is_bare(self) -> bool {
-        matches!(self, Part::Getter | Part::Setter | Part::Constructor)
+        matches!(
+            self,
+            FunctionKind::Getter | FunctionKind::Setter | FunctionKind::Constructor
+        )
     }
 
     /// Whether there are no parameters.
     pub fn is_getter(self) -> bool {
-        matches!(self, Part::Getter | Part::ClassGetter)
+        matches!(self, FunctionKind::Getter | FunctionKind::ClassGetter)
     }
 
     /// Whether there is one parameter, and no rest.
     pub fn is_setter(self) -> bool {
-        matches!(self, Part::Setter | Part::ClassSetter)
+        matches!(self, FunctionKind::Setter | FunctionKind::ClassSetter)
     }
 }
 
@@ -297,14 +300,14 @@ impl Signature {
         Signature {
             is_generator: false,
             is_async: false,
-            part: Part::Function,
+            kind: FunctionKind::Function,
             is_simple: true,
         }
     }
 
     /// Whether it may be no function at all: no word or star stands before its key.
     pub fn is_plain(self) -> bool {
-        !self.is_generator && !self.is_async && self.part == Part::Function
+        !self.is_generator && !self.is_async && self.kind == FunctionKind::Function
     }
 
     /// What stands in the record of the function.

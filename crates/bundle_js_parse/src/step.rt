@@ -123,7 +123,7 @@ fn step_literal(machine: &mut Machine<'_>, state: State) -> Result<(), Stop> {
 // Reads what the state says of statements.
 fn step_statement(machine: &mut Machine<'_>, state: State) -> Result<(), Stop> {
     match state {
-        State::Statement(spot) => statement::statement(machine, spot),
+        State::Statement(position) => statement::statement(machine, position),
         State::Statements {
             kind,
             directives,

@@ -1,10 +1,11 @@
 -- Whether each node of a list of pieces begins and ends once, and nodes lie in each other.
 use Rattle.std.specs.Prelude.{◌≡◌, ℕ, zero, suc, List, Option, Some, None, reverse}
 use Rattle.std.specs.List.{fold}
-use Rattle.bundle_tree_piece.specs.declared.piece.Piece as d
-use Rattle.bundle_tree_piece.specs.declared.piece.Piece.TheVariants as p
+use Rattle.bundle_syntax.specs.declared.piece.Piece as d
+use Rattle.bundle_syntax.specs.declared.piece.Piece.TheVariants as p
 
--- from the end of a list on, how many nodes are ended and not begun after one more piece; none where one is begun that was not ended
+-- from the end of a list on, how many nodes are ended and not begun after one more piece; none where
+-- one is begun that was not ended
 abbrev pub after : Option ℕ → d.Piece → Option ℕ
 after None piece = None
 after (Some n) (p.Ident field sym ctxt role) = Some n

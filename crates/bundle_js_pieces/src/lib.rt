@@ -8,4 +8,4 @@ mod role;
 mod texts;
 
 pub use placed::{Placed, pieces};
-pub use texts::{PieceError, Texts};
+pub use texts::{PieceError, RecordTexts};

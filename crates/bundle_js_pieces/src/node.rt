@@ -1,12 +1,12 @@
 //! The node of a record.
 
-use crate::texts::{PieceError, Texts};
+use crate::texts::{PieceError, RecordTexts};
 use bundle_js_record::kind::Kind;
 use bundle_js_record::record::Rec;
-use bundle_tree_leaf::{
-    AssignOp, BinaryOp, ExportMetadata, MetaPropKind, MethodKind, UnaryOp, UpdateOp, VarDeclKind,
+use bundle_syntax::{
+    AssignOp, BinaryOp, ExportMetadata, MetaPropKind, MethodKind, Node, UnaryOp, UpdateOp,
+    VarDeclKind,
 };
-use bundle_tree_piece::Node;
 
 /// The node of a record that others may lie in.
 pub fn node_of<'a>(kind: Kind, op: u8, notes: &'a ExportMetadata) -> Node<'a> {
@@ -133,7 +133,7 @@ fn plain_expression<'a>(kind: Kind) -> Node<'a> {
 }
 
 /// The node of a record that no other lies in.
-pub fn leaf_of<'a>(texts: Texts<'a>, rec: Rec) -> Result<Node<'a>, PieceError> {
+pub fn leaf_of<'a>(texts: RecordTexts<'a>, rec: Rec) -> Result<Node<'a>, PieceError> {
     match rec.kind {
         Kind::IdentName => Ok(Node::IdentName {
             sym: texts.value(rec)?,

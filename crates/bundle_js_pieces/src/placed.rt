@@ -5,11 +5,10 @@ ghost use Rattle.bundle_js_pieces.specs.Brackets.{after, Leaves, IsBracketed};
 
 use crate::node::{leaf_of, node_of};
 use crate::role::{ident_in, names_in};
-use crate::texts::{PieceError, Texts};
+use crate::texts::{PieceError, RecordTexts};
 use bundle_js_record::kind::{Kind, is_leaf};
 use bundle_js_record::record::Rec;
-use bundle_tree_leaf::ExportMetadata;
-use bundle_tree_piece::{Node, Piece, Role};
+use bundle_syntax::{ExportMetadata, Node, Piece, Role};
 use std::alloc::{AllocError, Global};
 
 /// The list of a tree, and beside each piece its place in the source: the byte at which it begins, for the end
@@ -180,7 +179,7 @@ impl<'a> Placed<'a> {
     // Adds what no other record lies in.
     fn add_leaf(
         &mut self,
-        texts: Texts<'a>,
+        texts: RecordTexts<'a>,
         rec: Rec,
         names: Role,
         ident: Role,
@@ -190,8 +189,7 @@ impl<'a> Placed<'a> {
         let field = rec.field;
         match rec.kind {
             Kind::Hole => self.add(Piece::Hole { field }, rec.from)?,
-            Kind::Ident => self.add_ident(field, texts.value(rec)?, ident, rec)?,
-            Kind::Shorthand => self.add_ident(field, texts.value(rec)?, Role::Reference, rec)?,
+            Kind::Ident | Kind::Shorthand => self.add_ident(field, texts.value(rec)?, ident, rec)?,
             Kind::BindingIdent => self.add_pattern(field, texts.value(rec)?, names, rec)?,
             Kind::ShorthandPat => self.add_property(field, texts.value(rec)?, names, rec)?,
             _ => {
@@ -205,7 +203,7 @@ impl<'a> Placed<'a> {
     // Adds what a record is from behind: a leaf, or the end of a node, which waits for its begin then.
     fn add_record(
         &mut self,
-        texts: Texts<'a>,
+        texts: RecordTexts<'a>,
         nodes: &mut Vec<Ended>,
         rec: Rec,
     ) -> Result<(), PieceError>
@@ -262,7 +260,7 @@ fn count_of(records: &[Rec]) -> usize {
 // The list of the records from its last piece to its first.
 fn placed_backward<'a>(
     alloc: Global,
-    texts: Texts<'a>,
+    texts: RecordTexts<'a>,
     records: &[Rec],
 ) -> Result<Placed<'a>, PieceError>
     ensures { IfOk result (λ list. Leaves 0 list.pieces.items) }
@@ -287,7 +285,7 @@ fn placed_backward<'a>(
 /// lies in the one around it. Refused only for memory, and where a record has no text.
 pub fn pieces<'a>(
     alloc: Global,
-    texts: Texts<'a>,
+    texts: RecordTexts<'a>,
     records: &[Rec],
 ) -> Result<Placed<'a>, PieceError>
     ensures { IfOk result (λ list. IsBracketed list.pieces.items) }

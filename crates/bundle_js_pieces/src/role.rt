@@ -1,7 +1,7 @@
 //! What identifiers are where they stand (ECMA-262, 8.2 and 13.1).
 
 use bundle_js_record::kind::Kind;
-use bundle_tree_piece::Role;
+use bundle_syntax::Role;
 
 /// What the names of patterns in the field `field` of a node are, where those of the node itself are `names`.
 /// For an export list it is what the names that it exports are.

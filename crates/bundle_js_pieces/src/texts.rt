@@ -3,7 +3,7 @@
 use bundle_js_record::kind::Kind;
 use bundle_js_record::record::Rec;
 use bundle_js_scan::store::Store;
-use bundle_tree_leaf::ExportMetadata;
+use bundle_syntax::ExportMetadata;
 use std::alloc::{AllocError, AllocFailed};
 
 /// Why a list of records gave no list of pieces.
@@ -30,13 +30,13 @@ impl<T: Drop> From<AllocFailed<T>> for PieceError {
 /// What a list borrows from: the source, the store of the texts that are not the source's, and what the linker
 /// notes on each declaration at first.
 #[derive(Clone, Copy)]
-pub struct Texts<'a> {
+pub struct RecordTexts<'a> {
     pub source: &'a str,
     pub store: &'a Store,
     pub notes: &'a ExportMetadata,
 }
 
-impl<'a> Texts<'a> {
+impl<'a> RecordTexts<'a> {
     /// The text that a record stands for: a name with no escape in it and no `#`, the value of a string, the
     /// raw text of a part of a template.
     pub fn value(&self, rec: Rec) -> Result<&'a str, PieceError> {

@@ -1,9 +1,9 @@
 -- How tightly expressions hold together (ECMA-262, 13).
 use Rattle.std.specs.Prelude.{ℕ, false}
-use Rattle.bundle_tree_leaf.specs.declared.operator.BinaryOp.{BinaryOp}
-use Rattle.bundle_tree_leaf.specs.declared.operator.BinaryOp.TheVariants as o
-use Rattle.bundle_tree_piece.specs.Item as h
-use Rattle.bundle_tree_piece.specs.Item.{Head}
+use Rattle.bundle_syntax.specs.declared.operator.BinaryOp.{BinaryOp}
+use Rattle.bundle_syntax.specs.declared.operator.BinaryOp.TheVariants as o
+use Rattle.bundle_syntax.specs.Item as h
+use Rattle.bundle_syntax.specs.Item.{Head}
 use Rattle.bundle_js_print.specs.declared.level.Level.{Level}
 use Rattle.bundle_js_print.specs.declared.level.Level.TheVariants as l
 
@@ -59,7 +59,8 @@ operator_level o.Div = l.Product
 operator_level o.Mod = l.Product
 operator_level o.Exp = l.Power
 
--- the level of the production that a node is of; what is no expression of operators is never torn apart
+-- the level of the production that a node is of; what is no expression of operators is never torn
+-- apart
 abbrev pub level : Head → Level
 level h.SeqExpr = l.Sequence
 level (h.AssignExpr _) = l.Assignment

@@ -3,12 +3,11 @@
 ghost use Rattle.std.specs.Prelude.{◌≤◌, string_len};
 
 use crate::context::is_for_head;
-use crate::frame::{Frame, Last, Wrap};
-use crate::gap::{Ending, Opening, ending_of};
+use crate::frame::{Last, PrintFrame, Wrap};
 use crate::printer::Printer;
+use crate::punctuation::{Ending, Opening, ending_of};
 use crate::text::push_string;
-use bundle_tree_leaf::MethodKind;
-use bundle_tree_piece::{Node, Piece};
+use bundle_syntax::{MethodKind, Node, Piece};
 use std::alloc::AllocError;
 
 impl<'p, 'a> Printer<'p, 'a> {
@@ -109,7 +108,11 @@ impl<'p, 'a> Printer<'p, 'a> {
     }
 
     /// Writes the end of the node `frame`, which ends at this place.
-    pub(crate) fn write_ending(&mut self, at: usize, frame: Frame<'p, 'a>) -> Result<(), AllocError>
+    pub(crate) fn write_ending(
+        &mut self,
+        at: usize,
+        frame: PrintFrame<'p, 'a>,
+    ) -> Result<(), AllocError>
         ensures grows { string_len self.old.text ≤ string_len self.new.text }
     {
         if frame.has_lines {
@@ -142,7 +145,7 @@ impl<'p, 'a> Printer<'p, 'a> {
         self.end_wrap(frame.wrap)
     }
 
-    fn end_object(&mut self, frame: Frame<'p, 'a>) -> Result<(), AllocError>
+    fn end_object(&mut self, frame: PrintFrame<'p, 'a>) -> Result<(), AllocError>
         ensures grows { string_len self.old.text ≤ string_len self.new.text }
     {
         if frame.has_lines {
@@ -153,7 +156,7 @@ impl<'p, 'a> Printer<'p, 'a> {
         self.text.push('}')
     }
 
-    fn end_names(&mut self, frame: Frame<'p, 'a>) -> Result<(), AllocError>
+    fn end_names(&mut self, frame: PrintFrame<'p, 'a>) -> Result<(), AllocError>
         ensures grows { string_len self.old.text ≤ string_len self.new.text }
     {
         self.text.push_str(match frame.behind {

@@ -2,13 +2,12 @@
 
 ghost use Rattle.std.specs.Prelude.{◌≤◌, string_len};
 
-use crate::context::{Context, Link};
-use crate::frame::{Arrival, Frame, Last, Wrap};
-use crate::gap::Gap;
+use crate::context::{Link, PrintContext};
+use crate::frame::{Arrival, Last, PrintFrame, Wrap};
 use crate::printer::Printer;
+use crate::punctuation::Separator;
 use crate::text::push_string;
-use bundle_tree_leaf::{UnaryOp, UpdateOp};
-use bundle_tree_piece::{Node, Piece};
+use bundle_syntax::{Node, Piece, UnaryOp, UpdateOp};
 use std::alloc::AllocError;
 
 // An object of more pieces has each property on a line of its own.
@@ -19,49 +18,49 @@ const MOST_INDENTED: usize = 64;
 
 impl<'p, 'a> Printer<'p, 'a> {
     /// Writes what stands before the child that begins at this place, in the node `frame`.
-    pub(crate) fn write_gap(
+    pub(crate) fn write_separator(
         &mut self,
-        gap: Gap,
-        frame: Frame<'p, 'a>,
+        separator: Separator,
+        frame: PrintFrame<'p, 'a>,
         at: usize,
         child: Option<&'p Node<'a>>,
-        context: Context,
+        context: PrintContext,
     ) -> Result<Arrival, AllocError>
         ensures grows { string_len self.old.text ≤ string_len self.new.text }
     {
         let mut arrival = Arrival::plain(context);
-        match gap {
-            Gap::Text(text) => self.text.push_str(text)?,
-            Gap::Spaced(text) => self.push_spaced(text)?,
-            Gap::Line(text) => {
+        match separator {
+            Separator::Text(text) => self.text.push_str(text)?,
+            Separator::Spaced(text) => self.push_spaced(text)?,
+            Separator::Line(text) => {
                 self.text.push_str(text)?;
                 self.begin_lines();
                 self.line_for(at)?;
             }
-            Gap::Item => self.line_for(at)?,
-            Gap::Body(text) => {
+            Separator::Item => self.line_for(at)?,
+            Separator::Body(text) => {
                 self.text.push_str(text)?;
                 return self.write_body(at, child, arrival);
             }
-            Gap::Else => return self.write_else(frame, at, child, arrival),
-            Gap::Behind(text) => self.push_behind(frame.last, text)?,
-            Gap::Property => self.write_property(frame, at)?,
-            Gap::Specifier => arrival.last = self.write_specifier(frame, child)?,
-            Gap::Source => self.push_source(frame)?,
-            Gap::Sign(op) => if is_kept_from(op, child) {
+            Separator::Else => return self.write_else(frame, at, child, arrival),
+            Separator::Behind(text) => self.push_behind(frame.last, text)?,
+            Separator::Property => self.write_property(frame, at)?,
+            Separator::Specifier => arrival.last = self.write_specifier(frame, child)?,
+            Separator::Source => self.push_source(frame)?,
+            Separator::Sign(op) => if is_kept_from(op, child) {
                 self.text.push(' ')?;
             },
-            Gap::Dot => self.push_dot(frame, child)?,
-            Gap::Link(text) => {
+            Separator::Dot => self.push_dot(frame, child)?,
+            Separator::Link(text) => {
                 self.push_link(frame.context.link)?;
                 self.text.push_str(text)?;
             }
-            Gap::Quasi => self.write_quasi(frame)?,
-            Gap::Renamed => self.push_imported(at)?,
-            Gap::Rest => if frame.behind == 1 {
+            Separator::Quasi => self.write_quasi(frame)?,
+            Separator::Renamed => self.push_imported(at)?,
+            Separator::Rest => if frame.behind == 1 {
                 self.text.push('}')?;
             },
-            Gap::Written => arrival.is_written = true,
+            Separator::Written => arrival.is_written = true,
         }
         Ok(arrival)
     }
@@ -168,7 +167,7 @@ impl<'p, 'a> Printer<'p, 'a> {
     // Begins the second branch of an `if`.
     fn write_else(
         &mut self,
-        frame: Frame<'p, 'a>,
+        frame: PrintFrame<'p, 'a>,
         at: usize,
         child: Option<&'p Node<'a>>,
         arrival: Arrival,
@@ -197,7 +196,7 @@ impl<'p, 'a> Printer<'p, 'a> {
         self.text.push_str(text)
     }
 
-    fn write_property(&mut self, frame: Frame<'p, 'a>, at: usize) -> Result<(), AllocError>
+    fn write_property(&mut self, frame: PrintFrame<'p, 'a>, at: usize) -> Result<(), AllocError>
         ensures grows { string_len self.old.text ≤ string_len self.new.text }
     {
         let is_first = frame.behind == 0;
@@ -212,7 +211,7 @@ impl<'p, 'a> Printer<'p, 'a> {
     }
 
     // Whether each property of an object stands on a line of its own.
-    fn has_lines(&self, frame: Frame<'p, 'a>) -> bool {
+    fn has_lines(&self, frame: PrintFrame<'p, 'a>) -> bool {
         let pieces = self.closes.end_of(frame.at).saturating_sub(frame.at);
         matches!(frame.node, Node::ObjectLit) && pieces > MOST_ON_A_LINE
     }
@@ -220,7 +219,7 @@ impl<'p, 'a> Printer<'p, 'a> {
     // Writes what separates the names of an import or an export, of which some stand in braces.
     fn write_specifier(
         &mut self,
-        frame: Frame<'p, 'a>,
+        frame: PrintFrame<'p, 'a>,
         child: Option<&'p Node<'a>>,
     ) -> Result<Last, AllocError>
         ensures grows { string_len self.old.text ≤ string_len self.new.text }
@@ -238,7 +237,7 @@ impl<'p, 'a> Printer<'p, 'a> {
         Ok(if is_named { Last::Braced } else { Last::Plain })
     }
 
-    fn push_source(&mut self, frame: Frame<'p, 'a>) -> Result<(), AllocError>
+    fn push_source(&mut self, frame: PrintFrame<'p, 'a>) -> Result<(), AllocError>
         ensures grows { string_len self.old.text ≤ string_len self.new.text }
     {
         let is_export = matches!(frame.node, Node::NamedExport { .. });
@@ -267,7 +266,7 @@ impl<'p, 'a> Printer<'p, 'a> {
 
     fn push_dot(
         &mut self,
-        frame: Frame<'p, 'a>,
+        frame: PrintFrame<'p, 'a>,
         child: Option<&'p Node<'a>>,
     ) -> Result<(), AllocError>
         ensures grows { string_len self.old.text ≤ string_len self.new.text }
@@ -297,7 +296,7 @@ impl<'p, 'a> Printer<'p, 'a> {
     }
 
     // Writes the text of a template before an expression.
-    fn write_quasi(&mut self, frame: Frame<'p, 'a>) -> Result<(), AllocError>
+    fn write_quasi(&mut self, frame: PrintFrame<'p, 'a>) -> Result<(), AllocError>
         ensures grows { string_len self.old.text ≤ string_len self.new.text }
     {
         if frame.behind != 0 {

@@ -2,7 +2,7 @@
 
 ghost use Rattle.std.specs.Prelude.{◌≤◌};
 
-use bundle_tree_piece::Piece;
+use bundle_syntax::Piece;
 use std::alloc::{AllocError, Global};
 
 /// Where each node of a list ends.

@@ -1,16 +1,15 @@
 //! What the place where an expression stands asks of it.
 
 ghost use Rattle.std.specs.Prelude.{◌≡◌, ◌≢◌, ◌≤◌, true, false};
-ghost use Rattle.bundle_tree_leaf.specs.declared.operator.BinaryOp.TheVariants.{In as in_operator};
-ghost use Rattle.bundle_tree_piece.specs.Item as head;
-ghost use Rattle.bundle_tree_piece.specs.Item.{head_of};
+ghost use Rattle.bundle_syntax.specs.declared.operator.BinaryOp.TheVariants.{In as in_operator};
+ghost use Rattle.bundle_syntax.specs.Item as head;
+ghost use Rattle.bundle_syntax.specs.Item.{head_of};
 ghost use Rattle.bundle_js_print.specs.Levels.{level, rank};
 ghost use Rattle.bundle_js_print.specs.declared.context.Link.TheVariants as links;
 ghost use Rattle.bundle_js_print.specs.declared.context.Start.TheVariants as starts;
 
 use crate::level::{Level, left_level, level_of, right_level};
-use bundle_tree_leaf::BinaryOp;
-use bundle_tree_piece::{Node, Piece};
+use bundle_syntax::{BinaryOp, Node, Piece};
 
 /// What an expression begins whose first words would there be read as something else.
 #[derive(Clone, Copy, PartialEq, Eq, Debug)]
@@ -46,7 +45,7 @@ pub enum Link {
 
 /// What the place where an expression stands asks of it.
 #[derive(Clone, Copy)]
-pub struct Context {
+pub struct PrintContext {
     /// The loosest that it may be.
     pub least: Level,
     /// Whether it may be a `??`, however loose that is.
@@ -89,10 +88,10 @@ pub enum Slot {
     Body,
 }
 
-impl Context {
+impl PrintContext {
     /// What is asked of what stands between brackets.
-    pub fn inside(least: Level) -> Context {
-        Context {
+    pub fn inside(least: Level) -> PrintContext {
+        PrintContext {
             least,
             takes_coalesce: false,
             start: Start::Free,
@@ -104,34 +103,34 @@ impl Context {
     }
 
     /// What is asked of a child, where this is asked of its node.
-    pub fn of_child(self, slot: Slot) -> Context {
+    pub fn of_child(self, slot: Slot) -> PrintContext {
         match slot {
-            Slot::Inside(least) => Context::inside(least),
+            Slot::Inside(least) => PrintContext::inside(least),
             Slot::Right(least) => self.right(least),
             Slot::Left(least) => self.left(least),
-            Slot::LeftOfCoalesce => Context {
+            Slot::LeftOfCoalesce => PrintContext {
                 takes_coalesce: true,
                 ..self.left(Level::BitOr)
             },
-            Slot::Object => Context {
+            Slot::Object => PrintContext {
                 no_call: self.no_call,
                 link: object_of(self.link),
                 ..self.left(Level::Call)
             },
-            Slot::Callee(least) => Context {
+            Slot::Callee(least) => PrintContext {
                 no_call: true,
-                ..Context::inside(least)
+                ..PrintContext::inside(least)
             },
-            Slot::Begin(least, start) => Context {
+            Slot::Begin(least, start) => PrintContext {
                 start,
                 no_in: is_for_head(start),
-                ..Context::inside(least)
+                ..PrintContext::inside(least)
             },
-            Slot::ArrowBody => Context {
+            Slot::ArrowBody => PrintContext {
                 start: Start::ArrowBody,
                 ..self.right(Level::Assignment)
             },
-            Slot::Part(is_optional) => Context {
+            Slot::Part(is_optional) => PrintContext {
                 no_call: self.no_call,
                 link: if is_optional {
                     Link::Optional
@@ -141,22 +140,22 @@ impl Context {
                 ..self.left(Level::Sequence)
             },
             Slot::Whole => self,
-            Slot::Body => Context {
+            Slot::Body => PrintContext {
                 no_else: self.no_else,
-                ..Context::inside(Level::Sequence)
+                ..PrintContext::inside(Level::Sequence)
             },
         }
     }
 
-    fn right(self, least: Level) -> Context {
-        Context {
+    fn right(self, least: Level) -> PrintContext {
+        PrintContext {
             no_in: self.no_in,
-            ..Context::inside(least)
+            ..PrintContext::inside(least)
         }
     }
 
-    fn left(self, least: Level) -> Context {
-        Context {
+    fn left(self, least: Level) -> PrintContext {
+        PrintContext {
             start: begin_of(self.start),
             ..self.right(least)
         }
@@ -291,7 +290,7 @@ fn binary_slot(op: BinaryOp, field: u8) -> Slot {
 }
 
 /// Whether a node needs parentheses where this is asked of it. `next` is the piece behind its begin.
-pub fn needs_parens(node: &Node, context: Context, next: Option<&Piece>) -> bool
+pub fn needs_parens(node: &Node, context: PrintContext, next: Option<&Piece>) -> bool
     ensures tight { result ≡ false → context.takes_coalesce ≡ false → context.link ≢ links.Object
         → rank context.least ≤ rank (level (head_of node.now)) }
     ensures in_head { result ≡ false → context.no_in ≡ true
@@ -312,7 +311,7 @@ pub fn needs_parens(node: &Node, context: Context, next: Option<&Piece>) -> bool
 }
 
 // Whether a node would be torn apart, or end what it stands in.
-fn is_torn(node: &Node, context: Context) -> bool
+fn is_torn(node: &Node, context: PrintContext) -> bool
     ensures tight { result ≡ false → context.takes_coalesce ≡ false → context.link ≢ links.Object
         → rank context.least ≤ rank (level (head_of node.now)) }
     ensures in_head { result ≡ false → context.no_in ≡ true

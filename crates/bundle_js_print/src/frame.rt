@@ -1,18 +1,18 @@
 //! A node that is being written.
 
-use crate::context::Context;
-use bundle_tree_piece::Node;
+use crate::context::PrintContext;
+use bundle_syntax::Node;
 
 /// A node that has begun and not ended.
 #[derive(Clone, Copy)]
-pub struct Frame<'p, 'a> {
+pub struct PrintFrame<'p, 'a> {
     pub node: &'p Node<'a>,
     /// Where it begins in the list.
     pub at: usize,
     /// Where it begins in the text.
     pub offset: u32,
     /// What is asked of it, or nothing where it is in parentheses.
-    pub context: Context,
+    pub context: PrintContext,
     /// What is around it.
     pub wrap: Wrap,
     /// 0 where it has no child yet, and else one more than the field of the last.
@@ -50,7 +50,7 @@ pub enum Last {
 #[derive(Clone, Copy)]
 pub struct Arrival {
     /// What is asked of it.
-    pub context: Context,
+    pub context: PrintContext,
     pub wrap: Wrap,
     pub last: Last,
     pub is_deeper: bool,
@@ -58,10 +58,15 @@ pub struct Arrival {
     pub is_written: bool,
 }
 
-impl<'p, 'a> Frame<'p, 'a> {
+impl<'p, 'a> PrintFrame<'p, 'a> {
     /// A node that begins here.
-    pub fn new(node: &'p Node<'a>, at: usize, offset: u32, context: Context) -> Frame<'p, 'a> {
-        Frame {
+    pub fn new(
+        node: &'p Node<'a>,
+        at: usize,
+        offset: u32,
+        context: PrintContext,
+    ) -> PrintFrame<'p, 'a> {
+        PrintFrame {
             node,
             at,
             offset,
@@ -78,7 +83,7 @@ impl<'p, 'a> Frame<'p, 'a> {
 
 impl Arrival {
     /// A child of which this is asked, with nothing else to say of it.
-    pub fn plain(context: Context) -> Arrival {
+    pub fn plain(context: PrintContext) -> Arrival {
         Arrival {
             context,
             wrap: Wrap::Bare,

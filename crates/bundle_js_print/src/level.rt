@@ -1,13 +1,12 @@
 //! How tightly the parts of an expression hold together (ECMA-262, 13).
 
 ghost use Rattle.std.specs.Prelude.{◌≡◌, ◌≢◌, ◌<◌, ◌≤◌, ◌↔◌, IsTrue};
-ghost use Rattle.bundle_tree_leaf.specs.declared.operator.BinaryOp.TheVariants.{Exp as power};
-ghost use Rattle.bundle_tree_piece.specs.Item.{head_of};
+ghost use Rattle.bundle_syntax.specs.declared.operator.BinaryOp.TheVariants.{Exp as power};
+ghost use Rattle.bundle_syntax.specs.Item.{head_of};
 ghost use Rattle.bundle_js_print.specs.Levels.{level, operator_level, rank};
 ghost use Rattle.bundle_js_print.specs.declared.level.Level.TheVariants as levels;
 
-use bundle_tree_leaf::BinaryOp;
-use bundle_tree_piece::Node;
+use bundle_syntax::{BinaryOp, Node};
 
 /// How tightly an expression holds together, the loosest first.
 #[derive(Clone, Copy, PartialEq, Eq, Debug)]

@@ -9,12 +9,12 @@ mod between;
 mod closes;
 mod context;
 mod frame;
-mod gap;
 mod level;
 mod print;
 mod printer;
+mod punctuation;
 mod text;
 
 pub use print::{Printed, print_pieces};
-pub use printer::Comment;
+pub use printer::LeadingComment;
 pub use text::Charset;

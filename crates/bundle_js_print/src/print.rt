@@ -3,9 +3,9 @@
 ghost use Rattle.std.specs.Prelude.{◌≡◌, ◌≤◌, IfOk, length, string_len, vec_len};
 ghost use Rattle.std.specs.List.{All};
 
-use crate::printer::{Comment, Printer};
+use crate::printer::{LeadingComment, Printer};
 use crate::text::Charset;
-use bundle_tree_piece::{Node, Piece};
+use bundle_syntax::{Node, Piece};
 use std::alloc::{AllocError, Global};
 
 /// A text, and for each piece of its list the place where it begins there, in bytes. A `Close` begins where
@@ -23,7 +23,7 @@ pub struct Printed {
 pub fn print_pieces(
     alloc: Global,
     pieces: &[Piece<'_>],
-    comments: &[Comment<'_>],
+    comments: &[LeadingComment<'_>],
     charset: Charset,
 ) -> Result<Printed, AllocError>
     ensures places { IfOk result (λ it. vec_len it.offsets ≡ length pieces.now) }

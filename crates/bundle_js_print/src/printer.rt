@@ -3,17 +3,17 @@
 ghost use Rattle.std.specs.Prelude.{◌≤◌, string_len, IfOk};
 
 use crate::closes::{Closes, number_of};
-use crate::context::{Context, Start, name_needs_parens, needs_parens, slot_of};
-use crate::frame::{Arrival, Frame, Last, Wrap};
-use crate::gap::{gap_before, opening_of};
+use crate::context::{PrintContext, Start, name_needs_parens, needs_parens, slot_of};
+use crate::frame::{Arrival, Last, PrintFrame, Wrap};
 use crate::level::Level;
+use crate::punctuation::{opening_of, separator_before};
 use crate::text::Charset;
-use bundle_tree_piece::{Node, Piece};
+use bundle_syntax::{Node, Piece};
 use std::alloc::{AllocError, Global};
 
 /// A comment, whole, and the place in the list of the statement in front of which it stands.
 #[derive(Clone, Copy, Debug)]
-pub struct Comment<'c> {
+pub struct LeadingComment<'c> {
     pub piece: u32,
     pub text: &'c str,
 }
@@ -22,11 +22,11 @@ pub struct Comment<'c> {
 #[derive(Drop)]
 pub struct Printer<'p, 'a> {
     pub(crate) pieces: &'p [Piece<'a>],
-    pub(crate) comments: &'p [Comment<'p>],
+    pub(crate) comments: &'p [LeadingComment<'p>],
     pub(crate) charset: Charset,
     pub(crate) closes: Closes,
     pub text: String,
-    pub(crate) frames: Vec<Frame<'p, 'a>>,
+    pub(crate) frames: Vec<PrintFrame<'p, 'a>>,
     pub(crate) depth: usize,
     /// How many comments have been written.
     pub(crate) told: usize,
@@ -38,12 +38,12 @@ impl<'p, 'a> Printer<'p, 'a> {
         alloc: Global,
         root: &'p Node<'a>,
         pieces: &'p [Piece<'a>],
-        comments: &'p [Comment<'p>],
+        comments: &'p [LeadingComment<'p>],
         charset: Charset,
     ) -> Result<Printer<'p, 'a>, AllocError> {
         let closes = Closes::of(alloc, pieces)?;
         let mut frames = Vec::new(alloc);
-        frames.push(Frame::new(root, 0, 0, Context::inside(Level::Sequence)))?;
+        frames.push(PrintFrame::new(root, 0, 0, PrintContext::inside(Level::Sequence)))?;
         Ok(Printer {
             pieces,
             comments,
@@ -87,13 +87,13 @@ impl<'p, 'a> Printer<'p, 'a> {
     {
         let arrival = self.arrive(at, field, Some(node))?;
         let offset = self.offset(arrival);
-        let mut frame = Frame::new(node, at, offset, arrival.context);
+        let mut frame = PrintFrame::new(node, at, offset, arrival.context);
         frame.wrap = arrival.wrap;
         frame.is_deeper = arrival.is_deeper;
         if !arrival.is_written {
             if needs_parens(node, arrival.context, self.next(at)) || self.is_refused(at, arrival) {
                 frame.wrap = Wrap::Parens;
-                frame.context = Context::inside(Level::Sequence);
+                frame.context = PrintContext::inside(Level::Sequence);
                 self.text.push('(')?;
             }
             self.write_opening(at, opening_of(node))?;
@@ -226,7 +226,7 @@ impl<'p, 'a> Printer<'p, 'a> {
         ensures grows { string_len self.old.text ≤ string_len self.new.text }
     {
         let Some(frame) = self.frames.last().copied() else {
-            return Ok(Arrival::plain(Context::inside(Level::Sequence)));
+            return Ok(Arrival::plain(PrintContext::inside(Level::Sequence)));
         };
         let mut context = frame
             .context
@@ -234,8 +234,8 @@ impl<'p, 'a> Printer<'p, 'a> {
         if matches!(frame.node, Node::IfStmt) && field == 1 && !self.is_last(at) {
             context.no_else = true;
         }
-        let gap = gap_before(frame.node, frame.behind, field);
-        let arrival = self.write_gap(gap, frame, at, child, context)?;
+        let separator = separator_before(frame.node, frame.behind, field);
+        let arrival = self.write_separator(separator, frame, at, child, context)?;
         if let Some(frame) = self.frames.last_mut() {
             frame.behind = field.saturating_add(1);
             frame.last = arrival.last;

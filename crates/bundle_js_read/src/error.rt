@@ -6,7 +6,7 @@ use std::fmt;
 
 /// Why a text is no module of its goal.
 #[derive(Clone, Copy, PartialEq, Eq, Debug)]
-pub enum ErrorKind {
+pub enum ReadErrorKind {
     /// The text ends where more has to stand.
     End,
     /// JSX, which is not of ECMAScript.
@@ -27,8 +27,8 @@ pub enum ErrorKind {
 
 /// Why a text is no module, and the byte at which what is wrong begins.
 #[derive(Clone, Copy, PartialEq, Eq, Debug)]
-pub struct Error {
-    pub kind: ErrorKind,
+pub struct ReadError {
+    pub kind: ReadErrorKind,
     pub at: u32,
 }
 
@@ -68,31 +68,31 @@ fn sentence_of(stop: Stop) -> &'static str {
 }
 
 /// Writes why.
-impl fmt::Display for ErrorKind {
+impl fmt::Display for ReadErrorKind {
     fn fmt<W: fmt::Write>(&self, f: &mut fmt::Formatter<W>) -> fmt::Result {
         match self {
-            ErrorKind::End => write!(f, "unexpected end of the text"),
-            ErrorKind::Jsx => write!(f, "JSX is not of ECMAScript"),
-            ErrorKind::TypeScript => write!(f, "TypeScript's syntax is not of ECMAScript"),
-            ErrorKind::Syntax(Stop::Scan(fault)) => write!(f, "{fault}"),
-            ErrorKind::Syntax(stop) => {
+            ReadErrorKind::End => write!(f, "unexpected end of the text"),
+            ReadErrorKind::Jsx => write!(f, "JSX is not of ECMAScript"),
+            ReadErrorKind::TypeScript => write!(f, "TypeScript's syntax is not of ECMAScript"),
+            ReadErrorKind::Syntax(Stop::Scan(fault)) => write!(f, "{fault}"),
+            ReadErrorKind::Syntax(stop) => {
                 let sentence = sentence_of(*stop);
                 write!(f, "{sentence}")
             }
-            ErrorKind::Early(early) => write!(f, "{early}"),
-            ErrorKind::TooDeep => write!(f, "nested too deep"),
-            ErrorKind::Internal => write!(f, "internal error: a record without its text"),
-            ErrorKind::OutOfMemory => write!(f, "out of memory"),
+            ReadErrorKind::Early(early) => write!(f, "{early}"),
+            ReadErrorKind::TooDeep => write!(f, "nested too deep"),
+            ReadErrorKind::Internal => write!(f, "internal error: a record without its text"),
+            ReadErrorKind::OutOfMemory => write!(f, "out of memory"),
         }
     }
 }
 
 /// Writes why.
-impl fmt::Display for Error {
+impl fmt::Display for ReadError {
     fn fmt<W: fmt::Write>(&self, f: &mut fmt::Formatter<W>) -> fmt::Result {
         let kind = self.kind;
         write!(f, "{kind}")
     }
 }
 
-impl std::error::Error for Error {}
+impl std::error::Error for ReadError {}

@@ -1,6 +1,6 @@
 //! What is not of ECMAScript: JSX and TypeScript, told by what stands where reading stopped.
 
-use crate::error::ErrorKind;
+use crate::error::ReadErrorKind;
 use bundle_js_scan::byte::byte_at;
 
 // Whether a name may hold this byte.
@@ -77,17 +77,17 @@ fn is_typescript(text: &str, at: usize, byte: u8, before: u8) -> bool {
 }
 
 /// What stands at this place that ECMAScript has nothing of; none where it is a token like any other.
-pub fn foreign_at(text: &str, at: usize) -> Option<ErrorKind> {
+pub fn foreign_at(text: &str, at: usize) -> Option<ReadErrorKind> {
     let bytes = text.as_bytes();
     let Some(byte) = bytes.get(at).copied() else {
-        return Some(ErrorKind::End);
+        return Some(ReadErrorKind::End);
     };
     let next = byte_at(bytes, at.saturating_add(1));
     let before = byte_at(bytes, end_before(bytes, at).saturating_sub(1));
     if is_typescript(text, at, byte, before) {
-        Some(ErrorKind::TypeScript)
+        Some(ReadErrorKind::TypeScript)
     } else if byte == b'<' && (next.is_ascii_alphabetic() || next == b'>') {
-        Some(ErrorKind::Jsx)
+        Some(ReadErrorKind::Jsx)
     } else {
         None
     }

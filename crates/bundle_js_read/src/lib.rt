@@ -9,5 +9,5 @@ mod source;
 pub use bundle_js_pieces::Placed;
 pub use bundle_js_scan::gap::Goal;
 pub use bundle_js_scan::place::{Position, position_at};
-pub use error::{Error, ErrorKind};
-pub use source::{Remark, Source};
+pub use error::{ReadError, ReadErrorKind};
+pub use source::{KeptComment, SourceModule};

@@ -3,57 +3,56 @@
 ghost use Rattle.std.specs.Prelude.{◌≤◌, ⊤, length, IfErr, MatchResult};
 ghost use Rattle.bundle_js_pieces.specs.Brackets.{IsBracketed};
 
-use crate::error::{Error, ErrorKind};
+use crate::error::{ReadError, ReadErrorKind};
 use crate::foreign::foreign_at;
 use bundle_js_errors::{Early, EarlyError, check};
 use bundle_js_parse::{Parsed, parse};
-use bundle_js_pieces::{PieceError, Placed, Texts, pieces};
+use bundle_js_pieces::{PieceError, Placed, RecordTexts, pieces};
 use bundle_js_record::reader::Stop;
 use bundle_js_scan::gap::Goal;
-use bundle_tree_leaf::ExportMetadata;
-use bundle_tree_piece::Piece;
+use bundle_syntax::{ExportMetadata, Piece};
 use std::alloc::Global;
 
 /// A comment that a bundle keeps, whole, and the piece of the list in front of which it stands: the number of
 /// the pieces where it stands behind all.
 #[derive(Clone, Copy, PartialEq, Eq, Debug)]
-pub struct Remark<'a> {
+pub struct KeptComment<'a> {
     pub piece: usize,
     pub text: &'a str,
 }
 
 /// The text of a module that was read: what its list is made of. The list borrows from it.
 #[derive(Drop)]
-pub struct Source<'a> {
+pub struct SourceModule<'a> {
     pub text: &'a str,
     parsed: Parsed,
     notes: ExportMetadata,
 }
 
-impl<'a> Source<'a> {
+impl<'a> SourceModule<'a> {
     /// Reads a text as a module of this goal (ECMA-262, 16.2; a CommonJS module is the body of a function in
     /// strict code). Nests take memory and no stack. Refused where the text is none, with the place in the text
     /// that is wrong first, and for memory. What declares or exports a name twice is read.
-    pub fn read(alloc: Global, text: &'a str, goal: Goal) -> Result<Source<'a>, Error>
+    pub fn read(alloc: Global, text: &'a str, goal: Goal) -> Result<SourceModule<'a>, ReadError>
         ensures { MatchResult result (λ _. ⊤) (λ error. error.at ≤ length text.now) }
     {
         let parsed = match parse(alloc, text, goal) {
             Ok(parsed) => parsed,
             Err((stop, at)) => {
-                return Err(Error {
+                return Err(ReadError {
                     kind: kind_of(text, stop, at),
                     at,
                 });
             }
         };
-        let source = Source {
+        let source = SourceModule {
             text,
             parsed,
             notes: ExportMetadata::default(),
         };
         match source.checked(alloc) {
             Ok(()) => Ok(source),
-            Err(Error { kind, at }) => Err(Error {
+            Err(ReadError { kind, at }) => Err(ReadError {
                 kind,
                 at: within(text, at),
             }),
@@ -61,26 +60,26 @@ impl<'a> Source<'a> {
     }
 
     // Refused where there is an early error.
-    fn checked(&self, alloc: Global) -> Result<(), Error> {
+    fn checked(&self, alloc: Global) -> Result<(), ReadError> {
         match check(alloc, self.texts(), self.parsed.records.as_slice()) {
             Ok(()) => Ok(()),
-            Err(EarlyError::Early(early, at)) => Err(Error {
-                kind: ErrorKind::Early(early),
+            Err(EarlyError::Early(early, at)) => Err(ReadError {
+                kind: ReadErrorKind::Early(early),
                 at,
             }),
-            Err(EarlyError::Text) => Err(Error {
-                kind: ErrorKind::Internal,
+            Err(EarlyError::Text) => Err(ReadError {
+                kind: ReadErrorKind::Internal,
                 at: 0,
             }),
-            Err(EarlyError::OutOfMemory) => Err(Error {
-                kind: ErrorKind::OutOfMemory,
+            Err(EarlyError::OutOfMemory) => Err(ReadError {
+                kind: ReadErrorKind::OutOfMemory,
                 at: 0,
             }),
         }
     }
 
-    fn texts(&self) -> Texts<'_> {
-        Texts {
+    fn texts(&self) -> RecordTexts<'_> {
+        RecordTexts {
             source: self.text,
             store: &self.parsed.store,
             notes: &self.notes,
@@ -89,20 +88,20 @@ impl<'a> Source<'a> {
 
     /// The list of the module's tree, and the place of each piece in the text. Refused where more nodes lie in
     /// each other than `most`, and for memory.
-    pub fn pieces(&self, alloc: Global, most: usize) -> Result<Placed<'_>, Error>
+    pub fn pieces(&self, alloc: Global, most: usize) -> Result<Placed<'_>, ReadError>
         ensures { MatchResult result (λ list. IsBracketed list.pieces.items)
             (λ error. error.at ≤ length self.now.text.now) }
     {
         match pieces(alloc, self.texts(), self.parsed.records.as_slice()) {
-            Ok(placed) if placed.depth > most => Err(Error {
-                kind: ErrorKind::TooDeep,
+            Ok(placed) if placed.depth > most => Err(ReadError {
+                kind: ReadErrorKind::TooDeep,
                 at: within(self.text, placed.deepest),
             }),
             Ok(placed) => Ok(placed),
-            Err(error) => Err(Error {
+            Err(error) => Err(ReadError {
                 kind: match error {
-                    PieceError::Text => ErrorKind::Internal,
-                    PieceError::OutOfMemory => ErrorKind::OutOfMemory,
+                    PieceError::Text => ReadErrorKind::Internal,
+                    PieceError::OutOfMemory => ReadErrorKind::OutOfMemory,
                 },
                 at: 0,
             }),
@@ -111,28 +110,32 @@ impl<'a> Source<'a> {
 
     /// The comments that a bundle keeps, in the order of the text: those that begin with `/*!` or hold
     /// `@license` or `@preserve`. The list is that of `pieces`. Refused only for memory.
-    pub fn remarks(&self, alloc: Global, list: &Placed<'_>) -> Result<Vec<Remark<'_>>, Error>
+    pub fn comments(
+        &self,
+        alloc: Global,
+        list: &Placed<'_>,
+    ) -> Result<Vec<KeptComment<'_>>, ReadError>
         ensures { IfErr result (λ error. error.at ≤ length self.now.text.now) }
     {
-        let mut remarks = Vec::new(alloc);
+        let mut comments = Vec::new(alloc);
         let mut piece = 0;
         for comment in self.parsed.comments.as_slice() {
             piece = begin_behind(list, piece, comment.from);
             let text: &str = self.text;
-            let remark = Remark {
+            let kept = KeptComment {
                 piece,
                 text: text
                     .get(comment.from as usize..comment.to as usize)
                     .unwrap_or(""),
             };
-            if remarks.push(remark).is_err() {
-                return Err(Error {
-                    kind: ErrorKind::OutOfMemory,
+            if comments.push(kept).is_err() {
+                return Err(ReadError {
+                    kind: ReadErrorKind::OutOfMemory,
                     at: 0,
                 });
             }
         }
-        Ok(remarks)
+        Ok(comments)
     }
 }
 
@@ -159,13 +162,13 @@ fn within(text: &str, at: u32) -> u32
 }
 
 // What is wrong where reading stopped at this byte.
-fn kind_of(text: &str, stop: Stop, at: u32) -> ErrorKind {
+fn kind_of(text: &str, stop: Stop, at: u32) -> ReadErrorKind {
     match stop {
-        Stop::OutOfMemory => ErrorKind::OutOfMemory,
+        Stop::OutOfMemory => ReadErrorKind::OutOfMemory,
         Stop::Unexpected | Stop::Reserved => match foreign_at(text, at as usize) {
             Some(kind) => kind,
-            None => ErrorKind::Syntax(stop),
+            None => ReadErrorKind::Syntax(stop),
         },
-        _ => ErrorKind::Syntax(stop),
+        _ => ReadErrorKind::Syntax(stop),
     }
 }

@@ -4,7 +4,7 @@
 ///
 /// The comment of a kind names its children with their fields' numbers, `[]` at a list and `?` at what may be
 /// left out, and what `op` holds where it is not 0. A kind that has neither is a leaf. Operators and kinds of
-/// declarations are held as their numbers in the enums of `bundle_tree_leaf`.
+/// declarations are held as their numbers in the enums of `bundle_syntax`.
 #[derive(Clone, Copy, PartialEq, Eq, Debug)]
 pub enum Kind {
     /// No node: the word that a name or a keyword has turned out to be, or what stands around an argument that

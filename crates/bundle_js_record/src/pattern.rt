@@ -6,7 +6,7 @@ use crate::record::Rec;
 
 /// What a pattern does with its names.
 #[derive(Clone, Copy, PartialEq, Eq, Debug)]
-pub enum Use {
+pub enum PatternUse {
     /// It binds them, and holds nothing but names.
     Binds,
     /// It assigns to them, and to members.
@@ -15,7 +15,7 @@ pub enum Use {
 
 // What becomes of a record where an expression turns out to be a pattern.
 #[derive(Clone, Copy)]
-enum Change {
+enum Refinement {
     // It is of this kind now, and what lies in it is looked at.
     Inside(Kind),
     // The same, and it and its last child are of field 0.
@@ -31,44 +31,45 @@ enum Change {
 }
 
 // What becomes of a record of an expression.
-fn turn_of(rec: Rec, purpose: Use) -> Change {
+fn refinement_of(rec: Rec, purpose: PatternUse) -> Refinement {
     match rec.kind {
-        Kind::Ident if rec.op == 0 => Change::Inside(Kind::BindingIdent),
-        Kind::Shorthand if rec.op == 0 => Change::Inside(Kind::ShorthandPat),
-        Kind::ArrayLit => Change::Inside(Kind::ArrayPat),
-        Kind::ObjectLit => Change::Inside(Kind::ObjectPat),
-        Kind::KeyValueProp => Change::Inside(Kind::KeyValuePatProp),
-        Kind::Cover => Change::Left(Kind::AssignPatProp),
-        Kind::AssignExpr if rec.op == 0 => Change::Fewer(Kind::AssignPat),
-        Kind::ExprOrSpread if rec.op == 0 => Change::Only(Kind::Gone),
-        Kind::ExprOrSpread | Kind::SpreadElement => Change::Only(Kind::RestPat),
-        Kind::MemberExpr | Kind::SuperPropExpr if purpose == Use::Assigns => Change::Stays,
-        Kind::ParenExpr if purpose == Use::Assigns && rec.op == 1 => Change::Stays,
+        Kind::Ident if rec.op == 0 => Refinement::Inside(Kind::BindingIdent),
+        Kind::Shorthand if rec.op == 0 => Refinement::Inside(Kind::ShorthandPat),
+        Kind::ArrayLit => Refinement::Inside(Kind::ArrayPat),
+        Kind::ObjectLit => Refinement::Inside(Kind::ObjectPat),
+        Kind::KeyValueProp => Refinement::Inside(Kind::KeyValuePatProp),
+        Kind::Cover => Refinement::Left(Kind::AssignPatProp),
+        Kind::AssignExpr if rec.op == 0 => Refinement::Fewer(Kind::AssignPat),
+        Kind::ExprOrSpread if rec.op == 0 => Refinement::Only(Kind::Gone),
+        Kind::ExprOrSpread | Kind::SpreadElement => Refinement::Only(Kind::RestPat),
+        Kind::MemberExpr | Kind::SuperPropExpr if purpose == PatternUse::Assigns =>
+            Refinement::Stays,
+        Kind::ParenExpr if purpose == PatternUse::Assigns && rec.op == 1 => Refinement::Stays,
         // Keys, which are no expressions.
-        Kind::Str | Kind::Number | Kind::BigInt if rec.op == 1 => Change::Stays,
-        Kind::Hole | Kind::IdentName | Kind::ComputedPropName => Change::Stays,
-        _ => turn_again(rec.kind, purpose),
+        Kind::Str | Kind::Number | Kind::BigInt if rec.op == 1 => Refinement::Stays,
+        Kind::Hole | Kind::IdentName | Kind::ComputedPropName => Refinement::Stays,
+        _ => refinement_again(rec.kind, purpose),
     }
 }
 
 // What becomes of a record that was turned before: what was turned to be assigned to may hold members, which
 // nothing binds.
-fn turn_again(kind: Kind, purpose: Use) -> Change {
+fn refinement_again(kind: Kind, purpose: PatternUse) -> Refinement {
     match kind {
-        Kind::BindingIdent | Kind::ShorthandPat => Change::Stays,
+        Kind::BindingIdent | Kind::ShorthandPat => Refinement::Stays,
         Kind::ArrayPat | Kind::ObjectPat | Kind::KeyValuePatProp | Kind::RestPat | Kind::Gone => {
-            if purpose == Use::Binds {
-                Change::Inside(kind)
+            if purpose == PatternUse::Binds {
+                Refinement::Inside(kind)
             } else {
-                Change::Stays
+                Refinement::Stays
             }
         }
-        Kind::AssignPat | Kind::AssignPatProp => if purpose == Use::Binds {
-            Change::Left(kind)
+        Kind::AssignPat | Kind::AssignPatProp => if purpose == PatternUse::Binds {
+            Refinement::Left(kind)
         } else {
-            Change::Stays
+            Refinement::Stays
         },
-        _ => Change::Refused,
+        _ => Refinement::Refused,
     }
 }
 
@@ -118,15 +119,15 @@ fn refused_rest(turned: Turned) -> u32 {
 
 // Turns the record, and says where the next one to be turned ends. Where it is no pattern it is the byte of the
 // text at which that begins.
-fn turn_one(records: &mut [Rec], turned: Turned, purpose: Use) -> Result<usize, u32> {
+fn turn_one(records: &mut [Rec], turned: Turned, purpose: PatternUse) -> Result<usize, u32> {
     let Turned { rec, at, child } = turned;
     let before = at.saturating_sub(1);
-    match turn_of(rec, purpose) {
-        Change::Inside(kind) => {
+    match refinement_of(rec, purpose) {
+        Refinement::Inside(kind) => {
             set_kind(records, at, kind);
             Ok(at)
         }
-        Change::Only(kind) => {
+        Refinement::Only(kind) => {
             if kind == Kind::RestPat && !may_rest(rec, child.kind) {
                 return Err(refused_rest(turned));
             }
@@ -135,26 +136,26 @@ fn turn_one(records: &mut [Rec], turned: Turned, purpose: Use) -> Result<usize, 
             set_field(records, before, 0);
             Ok(at)
         }
-        Change::Left(kind) => {
+        Refinement::Left(kind) => {
             set_kind(records, at, kind);
             Ok(child.start as usize)
         }
-        Change::Fewer(kind) => {
+        Refinement::Fewer(kind) => {
             set_kind(records, at, kind);
             set_field(records, before, 1);
             let left = child.start as usize;
             set_field(records, left.saturating_sub(1), 0);
             Ok(left)
         }
-        Change::Stays => Ok(rec.start as usize),
-        Change::Refused => Err(rec.from),
+        Refinement::Stays => Ok(rec.start as usize),
+        Refinement::Refused => Err(rec.from),
     }
 }
 
 /// Turns the records from `start` on from expressions into patterns, where they stand. Where one of them is no
 /// pattern it is the byte of the text at which that begins. Each record is looked at once: what stays is stepped
 /// over by its own start.
-pub fn turn(records: &mut [Rec], start: usize, purpose: Use) -> Result<(), u32> {
+pub fn turn(records: &mut [Rec], start: usize, purpose: PatternUse) -> Result<(), u32> {
     let mut end = records.len();
     for _ in start..records.len() {
         if end <= start {

@@ -1,8 +1,8 @@
 //! A text that is read, and the list that grows from it.
 
 use crate::kind::Kind;
-use crate::pattern::{Use, turn};
-use crate::record::{Place, Rec};
+use crate::pattern::{PatternUse, turn};
+use crate::record::{NodeStart, Rec, record_at};
 use bundle_js_scan::fault::ScanError;
 use bundle_js_scan::gap::Comment;
 use bundle_js_scan::lexer::{Goal, Lexer};
@@ -122,8 +122,8 @@ impl<'a> Reader<'a> {
     }
 
     /// The place of what begins here.
-    pub fn place(&self) -> Place {
-        Place {
+    pub fn place(&self) -> NodeStart {
+        NodeStart {
             start: self.end(),
             from: self.lexer.token().from,
         }
@@ -257,7 +257,7 @@ impl<'a> Reader<'a> {
 
     /// Writes a record of no token.
     pub fn hole(&mut self) -> Result<(), Stop> {
-        let Place { start, from } = self.place();
+        let NodeStart { start, from } = self.place();
         self.write(Rec {
             kind: Kind::Hole,
             field: 0,
@@ -270,13 +270,19 @@ impl<'a> Reader<'a> {
     }
 
     /// Writes the record of a node that begins at the place and ends before the token.
-    pub fn node(&mut self, kind: Kind, op: u8, place: Place) -> Result<(), Stop> {
+    pub fn node(&mut self, kind: Kind, op: u8, place: NodeStart) -> Result<(), Stop> {
         self.node_with(kind, op, 0, place)
     }
 
     /// The same with a number at `text`.
-    pub fn node_with(&mut self, kind: Kind, op: u8, text: u32, place: Place) -> Result<(), Stop> {
-        let Place { start, from } = place;
+    pub fn node_with(
+        &mut self,
+        kind: Kind,
+        op: u8,
+        text: u32,
+        place: NodeStart,
+    ) -> Result<(), Stop> {
+        let NodeStart { start, from } = place;
         let to = self.lexer.before();
         self.write(Rec {
             kind,
@@ -324,18 +330,7 @@ impl<'a> Reader<'a> {
 
     /// The record at this place; one of no kind where there is none.
     pub fn at(&self, at: usize) -> Rec {
-        match self.records.as_slice().get(at) {
-            Some(rec) => *rec,
-            None => Rec {
-                kind: Kind::Gone,
-                field: 0,
-                op: 0,
-                start: 0,
-                from: 0,
-                to: 0,
-                text: 0,
-            },
-        }
+        record_at(self.records.as_slice(), at)
     }
 
     /// The kind of the last record.
@@ -371,7 +366,7 @@ impl<'a> Reader<'a> {
     }
 
     /// Turns what was written from this place on from expressions into patterns, where it stands.
-    pub fn pattern(&mut self, start: u32, purpose: Use) -> Result<(), Stop> {
+    pub fn pattern(&mut self, start: u32, purpose: PatternUse) -> Result<(), Stop> {
         match turn(self.records.as_mut_slice(), start as usize, purpose) {
             Ok(()) => Ok(()),
             Err(from) => Err(self.refuse(from, Stop::Target)),

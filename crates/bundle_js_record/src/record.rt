@@ -24,7 +24,23 @@ pub struct Rec {
 
 /// Where a node begins, in the list and in the source.
 #[derive(Clone, Copy, Debug)]
-pub struct Place {
+pub struct NodeStart {
     pub start: u32,
     pub from: u32,
+}
+
+/// The record at this place; one of no kind where there is none.
+pub fn record_at(records: &[Rec], at: usize) -> Rec {
+    match records.get(at) {
+        Some(rec) => *rec,
+        None => Rec {
+            kind: Kind::Gone,
+            field: 0,
+            op: 0,
+            start: 0,
+            from: 0,
+            to: 0,
+            text: 0,
+        },
+    }
 }

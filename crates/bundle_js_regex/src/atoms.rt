@@ -7,9 +7,9 @@ use crate::pattern::Pattern;
 use bundle_js_scan::byte::{char_at, hex_value, is_inner};
 use bundle_js_scan::escape::{is_high, is_low, pair};
 
-/// What a character of a class is: one, by its number, or an escape of many.
+/// An atom of a class (`ClassAtom`): one character, by its number, or an escape that stands for many.
 #[derive(Clone, Copy, PartialEq, Eq, Debug)]
-pub enum Member {
+pub enum ClassAtom {
     One(u32),
     Many,
 }
@@ -32,7 +32,7 @@ impl Pattern<'_> {
                 Ok(true)
             }
             _ => {
-                let _member = self.member_escape(false)?;
+                let _atom = self.atom_escape(false)?;
                 Ok(true)
             }
         }
@@ -62,19 +62,19 @@ impl Pattern<'_> {
     }
 
     /// Reads an escape that gives a character or a set of them.
-    pub fn member_escape(&mut self, class: bool) -> Result<Member, RegexError> {
+    pub fn atom_escape(&mut self, class: bool) -> Result<ClassAtom, RegexError> {
         if self.at.saturating_add(1) >= self.source.len() {
             return Err(RegexError::Backslash);
         }
         match self.ahead(1) {
             b'd' | b'D' | b's' | b'S' | b'w' | b'W' => {
                 self.skip(2);
-                Ok(Member::Many)
+                Ok(ClassAtom::Many)
             }
             b'p' | b'P' if self.unicode => {
                 self.skip(2);
                 self.property()?;
-                Ok(Member::Many)
+                Ok(ClassAtom::Many)
             }
             b'c' => self.control(class),
             b'0'..=b'7' => self.octal(),
@@ -98,16 +98,16 @@ impl Pattern<'_> {
         number: Option<u32>,
         letter: u8,
         error: RegexError,
-    ) -> Result<Member, RegexError> {
+    ) -> Result<ClassAtom, RegexError> {
         match number {
-            Some(number) => Ok(Member::One(number)),
+            Some(number) => Ok(ClassAtom::One(number)),
             None if self.unicode => Err(error),
-            None => Ok(Member::One(letter as u32)),
+            None => Ok(ClassAtom::One(letter as u32)),
         }
     }
 
     // A character behind a backslash that stands for itself or for a control character.
-    fn identity(&mut self, letter: u8, class: bool) -> Result<Member, RegexError> {
+    fn identity(&mut self, letter: u8, class: bool) -> Result<ClassAtom, RegexError> {
         self.skip(1);
         let control = match letter {
             b'f' => 12,
@@ -119,7 +119,7 @@ impl Pattern<'_> {
         };
         if control > 0 {
             self.skip(1);
-            return Ok(Member::One(control));
+            return Ok(ClassAtom::One(control));
         }
         let allowed = if self.unicode {
             is_syntax(letter) || (class && letter == b'-')
@@ -127,36 +127,36 @@ impl Pattern<'_> {
             letter != b'k' || !self.named
         };
         if allowed {
-            Ok(Member::One(self.unit()))
+            Ok(ClassAtom::One(self.unit()))
         } else {
             Err(RegexError::Escape)
         }
     }
 
     // The escape `\c` that stands here; without `u` its backslash alone where it names no control character.
-    fn control(&mut self, class: bool) -> Result<Member, RegexError> {
+    fn control(&mut self, class: bool) -> Result<ClassAtom, RegexError> {
         let letter = self.ahead(2);
         let wide = class && !self.unicode && (letter.is_ascii_digit() || letter == b'_');
         if letter.is_ascii_alphabetic() || wide {
             self.skip(3);
-            Ok(Member::One((letter & 31) as u32))
+            Ok(ClassAtom::One((letter & 31) as u32))
         } else if self.unicode {
             Err(RegexError::Escape)
         } else {
             self.skip(1);
-            Ok(Member::One(92))
+            Ok(ClassAtom::One(92))
         }
     }
 
     // The escape of octal digits that stands here: with `u` only `\0` before no digit.
-    fn octal(&mut self) -> Result<Member, RegexError> {
+    fn octal(&mut self) -> Result<ClassAtom, RegexError> {
         let first = octal_value(self.ahead(1)).unwrap_or(0);
         if self.unicode {
             if first > 0 || self.ahead(2).is_ascii_digit() {
                 return Err(RegexError::Decimal);
             }
             self.skip(2);
-            return Ok(Member::One(0));
+            return Ok(ClassAtom::One(0));
         }
         self.skip(2);
         let mut number = first;
@@ -169,7 +169,7 @@ impl Pattern<'_> {
                 _ => break,
             }
         }
-        Ok(Member::One(number))
+        Ok(ClassAtom::One(number))
     }
 
     // The number of so many hexadecimal digits that stand here; none, and stays, where they do not.

@@ -1,6 +1,6 @@
 //! Classes of characters (ECMA-262, 22.2.1 and B.1.2).
 
-use crate::atoms::Member;
+use crate::atoms::ClassAtom;
 use crate::fault::RegexError;
 use crate::pattern::Pattern;
 
@@ -12,7 +12,7 @@ impl Pattern<'_> {
             if self.eat(b']') {
                 return Ok(());
             }
-            let first = self.member()?;
+            let first = self.class_atom()?;
             if self.eat(b'-') {
                 self.range(first)?;
             }
@@ -21,12 +21,12 @@ impl Pattern<'_> {
     }
 
     // Reads the end of the range behind its hyphen, which is a character by itself before a bracket.
-    fn range(&mut self, first: Member) -> Result<(), RegexError> {
+    fn range(&mut self, first: ClassAtom) -> Result<(), RegexError> {
         if self.ahead(0) == b']' {
             return Ok(());
         }
-        match (first, self.member()?) {
-            (Member::One(first), Member::One(last)) => if first > last {
+        match (first, self.class_atom()?) {
+            (ClassAtom::One(first), ClassAtom::One(last)) => if first > last {
                 Err(RegexError::Range)
             } else {
                 Ok(())
@@ -40,17 +40,17 @@ impl Pattern<'_> {
     }
 
     // Reads a character of a class, or an escape.
-    fn member(&mut self) -> Result<Member, RegexError> {
+    fn class_atom(&mut self) -> Result<ClassAtom, RegexError> {
         if self.is_end() {
             return Err(RegexError::OpenClass);
         }
         if self.ahead(0) != b'\\' {
-            return Ok(Member::One(self.unit()));
+            return Ok(ClassAtom::One(self.unit()));
         }
         if self.ahead(1) == b'b' {
             self.skip(2);
-            return Ok(Member::One(8));
+            return Ok(ClassAtom::One(8));
         }
-        self.member_escape(true)
+        self.atom_escape(true)
     }
 }

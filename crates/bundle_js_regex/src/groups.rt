@@ -1,7 +1,7 @@
 //! Groups, their names, and references to them (ECMA-262, 22.2.1).
 
 use crate::fault::RegexError;
-use crate::pattern::{Group, Pattern, Reference};
+use crate::pattern::{BackReference, Pattern, RegexGroup};
 use bundle_js_scan::name::{is_part, is_start};
 
 impl Pattern<'_> {
@@ -9,15 +9,15 @@ impl Pattern<'_> {
     pub fn open_group(&mut self) -> Result<(), RegexError> {
         self.skip(1);
         if self.ahead(0) != b'?' {
-            return self.push_group(Group::Plain, 0);
+            return self.push_group(RegexGroup::Plain, 0);
         }
         match self.ahead(1) {
-            b':' => self.push_group(Group::Plain, 2),
-            b'=' | b'!' => self.push_group(Group::Ahead, 2),
+            b':' => self.push_group(RegexGroup::Plain, 2),
+            b'=' | b'!' => self.push_group(RegexGroup::Ahead, 2),
             b'<' => match self.ahead(2) {
-                b'=' | b'!' => self.push_group(Group::Behind, 3),
+                b'=' | b'!' => self.push_group(RegexGroup::Behind, 3),
                 _ => {
-                    self.push_group(Group::Plain, 1)?;
+                    self.push_group(RegexGroup::Plain, 1)?;
                     self.declare()
                 }
             },
@@ -26,14 +26,14 @@ impl Pattern<'_> {
     }
 
     // Begins a group of this kind behind so many bytes.
-    fn push_group(&mut self, group: Group, sign: usize) -> Result<(), RegexError> {
+    fn push_group(&mut self, group: RegexGroup, sign: usize) -> Result<(), RegexError> {
         self.skip(sign);
         self.open.push(group)?;
         Ok(())
     }
 
     /// Ends the innermost group at its parenthesis, and says what it was.
-    pub fn close_group(&mut self) -> Result<Group, RegexError> {
+    pub fn close_group(&mut self) -> Result<RegexGroup, RegexError> {
         match self.open.pop() {
             Some(group) => {
                 self.skip(1);
@@ -60,7 +60,7 @@ impl Pattern<'_> {
             return Err(RegexError::Reference);
         }
         let name = self.name()?;
-        self.references.push(Reference { name, at })?;
+        self.references.push(BackReference { name, at })?;
         Ok(())
     }
 

@@ -11,7 +11,7 @@ use std::collections::BTreeMap;
 
 /// What a group is.
 #[derive(Clone, Copy, PartialEq, Eq, Debug)]
-pub enum Group {
+pub enum RegexGroup {
     /// It captures, or only groups.
     Plain,
     /// It looks ahead.
@@ -22,7 +22,7 @@ pub enum Group {
 
 /// A reference to a group by its name, and its place.
 #[derive(Drop)]
-pub struct Reference {
+pub struct BackReference {
     pub name: String,
     pub at: usize,
 }
@@ -39,10 +39,10 @@ pub struct Pattern<'a> {
     /// Whether one of its groups has a name.
     pub named: bool,
     /// The groups that are open.
-    pub open: Vec<Group>,
+    pub open: Vec<RegexGroup>,
     /// The names of groups, with their places.
     pub names: BTreeMap<String, usize>,
-    pub references: Vec<Reference>,
+    pub references: Vec<BackReference>,
     pub alloc: Global,
 }
 
@@ -159,11 +159,11 @@ impl Pattern<'_> {
             b'[' => {
                 self.skip(1);
                 self.class()?;
-                self.quantifier(Group::Plain)
+                self.quantifier(RegexGroup::Plain)
             }
             b'\\' => {
                 if self.escape()? {
-                    self.quantifier(Group::Plain)
+                    self.quantifier(RegexGroup::Plain)
                 } else {
                     Ok(())
                 }
@@ -171,7 +171,7 @@ impl Pattern<'_> {
             b'{' | b'}' | b']' => self.bracket(),
             _ => {
                 self.skip(1);
-                self.quantifier(Group::Plain)
+                self.quantifier(RegexGroup::Plain)
             }
         }
     }
@@ -184,12 +184,12 @@ impl Pattern<'_> {
             Err(RegexError::Bracket)
         } else {
             self.skip(1);
-            self.quantifier(Group::Plain)
+            self.quantifier(RegexGroup::Plain)
         }
     }
 
     // The quantifier behind an atom or a group of this kind, if one stands there.
-    fn quantifier(&mut self, group: Group) -> Result<(), RegexError> {
+    fn quantifier(&mut self, group: RegexGroup) -> Result<(), RegexError> {
         match self.ahead(0) {
             b'*' | b'+' | b'?' => self.skip(1),
             b'{' => match self.interval() {
@@ -203,8 +203,8 @@ impl Pattern<'_> {
         }
         let _lazy = self.eat(b'?');
         match group {
-            Group::Plain => Ok(()),
-            Group::Ahead if !self.unicode => Ok(()),
+            RegexGroup::Plain => Ok(()),
+            RegexGroup::Ahead if !self.unicode => Ok(()),
             _ => Err(RegexError::Quantifier),
         }
     }

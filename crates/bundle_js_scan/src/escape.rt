@@ -32,7 +32,7 @@ pub enum Mode {
 
 /// What the next character of an escape does.
 #[derive(Clone, Copy)]
-pub enum Step {
+pub enum EscapeStep {
     /// The escape goes on.
     Go(Mode),
     /// It ends, and gives this number of a code unit or a code point.
@@ -44,22 +44,22 @@ pub enum Step {
 }
 
 /// What this character does in an escape, with the byte behind it.
-pub fn next_step(mode: Mode, c: char, next: u8) -> Step {
+pub fn next_step(mode: Mode, c: char, next: u8) -> EscapeStep {
     match mode {
-        Mode::Plain => Step::Go(Mode::Backslash),
+        Mode::Plain => EscapeStep::Go(Mode::Backslash),
         Mode::Backslash => escaped(c, next),
         Mode::Opening => if c == '{' {
-            Step::Go(Mode::Brace)
+            EscapeStep::Go(Mode::Brace)
         } else {
             hex(c, 4, 0, ScanError::UnicodeEscape)
         },
         Mode::Hex { left, value, error } => hex(c, left, value, error),
         Mode::Brace => match digit(c) {
-            Some(value) => Step::Go(Mode::Braced { value }),
-            None => Step::Refused(ScanError::UnicodeEscape),
+            Some(value) => EscapeStep::Go(Mode::Braced { value }),
+            None => EscapeStep::Refused(ScanError::UnicodeEscape),
         },
         Mode::Braced { value } => braced(c, value),
-        Mode::Return => Step::Nothing,
+        Mode::Return => EscapeStep::Nothing,
     }
 }
 
@@ -73,59 +73,59 @@ fn digit(c: char) -> Option<u32>
 }
 
 // Behind a backslash.
-fn escaped(c: char, next: u8) -> Step {
+fn escaped(c: char, next: u8) -> EscapeStep {
     match c {
-        'n' => Step::Gives(10),
-        't' => Step::Gives(9),
-        'r' => Step::Gives(13),
-        'b' => Step::Gives(8),
-        'f' => Step::Gives(12),
-        'v' => Step::Gives(11),
-        '0' if !next.is_ascii_digit() => Step::Gives(0),
-        '0'..='9' => Step::Refused(ScanError::OctalEscape),
-        'x' => Step::Go(Mode::Hex {
+        'n' => EscapeStep::Gives(10),
+        't' => EscapeStep::Gives(9),
+        'r' => EscapeStep::Gives(13),
+        'b' => EscapeStep::Gives(8),
+        'f' => EscapeStep::Gives(12),
+        'v' => EscapeStep::Gives(11),
+        '0' if !next.is_ascii_digit() => EscapeStep::Gives(0),
+        '0'..='9' => EscapeStep::Refused(ScanError::OctalEscape),
+        'x' => EscapeStep::Go(Mode::Hex {
             left: 2,
             value: 0,
             error: ScanError::HexEscape,
         }),
-        'u' => Step::Go(Mode::Opening),
-        '\r' if next == b'\n' => Step::Go(Mode::Return),
-        '\r' | '\n' | '\u{2028}' | '\u{2029}' => Step::Nothing,
-        _ => Step::Gives(c as u32),
+        'u' => EscapeStep::Go(Mode::Opening),
+        '\r' if next == b'\n' => EscapeStep::Go(Mode::Return),
+        '\r' | '\n' | '\u{2028}' | '\u{2029}' => EscapeStep::Nothing,
+        _ => EscapeStep::Gives(c as u32),
     }
 }
 
 // A digit of a number of so many.
-fn hex(c: char, left: u8, value: u32, error: ScanError) -> Step {
+fn hex(c: char, left: u8, value: u32, error: ScanError) -> EscapeStep {
     match digit(c) {
         Some(digit) if value < 65536 => {
             let value = value * 16 + digit;
             if left > 1 {
-                Step::Go(Mode::Hex {
+                EscapeStep::Go(Mode::Hex {
                     left: left - 1,
                     value,
                     error,
                 })
             } else {
-                Step::Gives(value)
+                EscapeStep::Gives(value)
             }
         }
-        _ => Step::Refused(error),
+        _ => EscapeStep::Refused(error),
     }
 }
 
 // A digit of a number in braces, or the brace behind it.
-fn braced(c: char, value: u32) -> Step {
+fn braced(c: char, value: u32) -> EscapeStep {
     if c == '}' {
-        return Step::Gives(value);
+        return EscapeStep::Gives(value);
     }
     match digit(c) {
         Some(digit) if value < 1114112 && value * 16 + digit < 1114112 => {
-            Step::Go(Mode::Braced {
+            EscapeStep::Go(Mode::Braced {
                 value: value * 16 + digit,
             })
         }
-        _ => Step::Refused(ScanError::UnicodeEscape),
+        _ => EscapeStep::Refused(ScanError::UnicodeEscape),
     }
 }
 

@@ -1,7 +1,7 @@
 //! Names (ECMA-262, 12.7).
 
 use crate::byte::{byte_at, char_at, is_inner};
-use crate::escape::{Mode, Step, next_step};
+use crate::escape::{EscapeStep, Mode, next_step};
 use crate::fault::ScanError;
 use crate::scanned::Scanned;
 use crate::token::{Tok, is_name};
@@ -89,12 +89,12 @@ fn plain_name(text: &[u8], from: usize, to: usize) -> Option<Scanned> {
 
 // A name with escapes or characters beyond ASCII, as far as it is read: its first characters, and how many.
 #[derive(Drop)]
-struct Spelling {
+struct NamePrefix {
     word: [u8; 12],
     size: usize,
 }
 
-impl Spelling {
+impl NamePrefix {
     // Whether the name may go on with this character.
     fn takes(&self, c: char) -> bool {
         if self.size == 0 {
@@ -141,7 +141,7 @@ fn escaped_kind(kind: Tok) -> Tok {
 
 // The name that begins here, with escapes or characters beyond ASCII.
 fn wide_name(text: &[u8], from: usize) -> Option<Scanned> {
-    let mut name = Spelling {
+    let mut name = NamePrefix {
         word: [0; 12],
         size: 0,
     };
@@ -153,11 +153,11 @@ fn wide_name(text: &[u8], from: usize) -> Option<Scanned> {
         }
         let c = char_at(text, at);
         match name_step(mode, c) {
-            Step::Go(next) => {
+            EscapeStep::Go(next) => {
                 mode = next;
                 escaped = true;
             }
-            Step::Gives(number) => match char::from_u32(number) {
+            EscapeStep::Gives(number) => match char::from_u32(number) {
                 Some(c) if name.takes(c) => {
                     name.add(c);
                     mode = Mode::Plain;
@@ -165,7 +165,7 @@ fn wide_name(text: &[u8], from: usize) -> Option<Scanned> {
                 _ if matches!(mode, Mode::Plain) => return name.ends(escaped, at),
                 _ => return Some(Scanned::bad(ScanError::NameEscape, at)),
             },
-            Step::Nothing | Step::Refused(_) => {
+            EscapeStep::Nothing | EscapeStep::Refused(_) => {
                 return Some(Scanned::bad(ScanError::NameEscape, at));
             }
         }
@@ -178,10 +178,10 @@ fn wide_name(text: &[u8], from: usize) -> Option<Scanned> {
 }
 
 // What the character does in a name, in which `\u` begins the only escapes.
-fn name_step(mode: Mode, c: char) -> Step {
+fn name_step(mode: Mode, c: char) -> EscapeStep {
     match mode {
-        Mode::Plain if c != '\\' => Step::Gives(c as u32),
-        Mode::Backslash if c != 'u' => Step::Refused(ScanError::NameEscape),
+        Mode::Plain if c != '\\' => EscapeStep::Gives(c as u32),
+        Mode::Backslash if c != 'u' => EscapeStep::Refused(ScanError::NameEscape),
         _ => next_step(mode, c, 0),
     }
 }

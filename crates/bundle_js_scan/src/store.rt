@@ -1,7 +1,7 @@
 //! The store of the texts that are not those of the source.
 
 use crate::byte::{byte_at, char_at, is_inner};
-use crate::escape::{Mode, Step, is_high, is_low, next_step, pair};
+use crate::escape::{EscapeStep, Mode, is_high, is_low, next_step, pair};
 use crate::token::{Tok, Token};
 use std::alloc::{AllocError, Global};
 
@@ -74,12 +74,12 @@ impl Store {
             }
             let next = byte_at(text, at.saturating_add(1));
             mode = match next_step(mode, c, next) {
-                Step::Go(next) => next,
-                Step::Gives(number) => {
+                EscapeStep::Go(next) => next,
+                EscapeStep::Gives(number) => {
                     high = self.push_number(high, number)?;
                     Mode::Plain
                 }
-                Step::Nothing | Step::Refused(_) => Mode::Plain,
+                EscapeStep::Nothing | EscapeStep::Refused(_) => Mode::Plain,
             };
         }
         Ok(())

@@ -1,7 +1,7 @@
 //! Strings, parts of templates and regular expressions (ECMA-262, 12.9.4 to 12.9.6).
 
 use crate::byte::{byte_at, char_at, is_inner, is_line_end};
-use crate::escape::{Mode, Step, is_high, is_low, next_step};
+use crate::escape::{EscapeStep, Mode, is_high, is_low, next_step};
 use crate::fault::ScanError;
 use crate::name::parts_end;
 use crate::scanned::Scanned;
@@ -49,16 +49,16 @@ fn escaped_string(text: &[u8], from: usize, quote: u8) -> Scanned {
             continue;
         }
         match next_step(mode, char_at(text, at), byte_at(text, at + 1)) {
-            Step::Go(next) => mode = next,
-            Step::Gives(number) => {
+            EscapeStep::Go(next) => mode = next,
+            EscapeStep::Gives(number) => {
                 if half != is_low(number) {
                     return Scanned::bad(ScanError::Surrogate, at);
                 }
                 half = is_high(number);
                 mode = Mode::Plain;
             }
-            Step::Nothing => mode = Mode::Plain,
-            Step::Refused(error) => return Scanned::bad(error, at),
+            EscapeStep::Nothing => mode = Mode::Plain,
+            EscapeStep::Refused(error) => return Scanned::bad(error, at),
         }
     }
     Scanned::bad(ScanError::Quote, text.len())
@@ -78,15 +78,15 @@ pub fn chunk_at(text: &[u8], from: usize) -> Scanned {
         escaped = escaped || byte == b'\r';
         if !matches!(mode, Mode::Plain) {
             match next_step(mode, char_at(text, at), byte_at(text, at + 1)) {
-                Step::Go(next) => {
+                EscapeStep::Go(next) => {
                     mode = next;
                     continue;
                 }
-                Step::Gives(_) | Step::Nothing => {
+                EscapeStep::Gives(_) | EscapeStep::Nothing => {
                     mode = Mode::Plain;
                     continue;
                 }
-                Step::Refused(error) => {
+                EscapeStep::Refused(error) => {
                     let begun = matches!(mode, Mode::Backslash);
                     mode = Mode::Plain;
                     fault = fault.or(Some(error));

@@ -1,11 +1,11 @@
 //! `if`, `switch` and `try` (ECMA-262, 14.6, 14.12 and 14.15).
 
 use bundle_js_machine::machine::Machine;
-use bundle_js_machine::state::{Spot, State};
+use bundle_js_machine::state::{State, StatementPosition};
 use bundle_js_record::kind::Kind;
-use bundle_js_record::pattern::Use;
+use bundle_js_record::pattern::PatternUse;
 use bundle_js_record::reader::Stop;
-use bundle_js_record::record::Place;
+use bundle_js_record::record::NodeStart;
 use bundle_js_scan::token::Tok;
 
 /// A word and an expression in parentheses, whose end the state reads.
@@ -16,22 +16,25 @@ pub fn condition(machine: &mut Machine<'_>, end: State) -> Result<(), Stop> {
 }
 
 /// `if`.
-pub fn if_statement(machine: &mut Machine<'_>, place: Place) -> Result<(), Stop> {
+pub fn if_statement(machine: &mut Machine<'_>, place: NodeStart) -> Result<(), Stop> {
     condition(machine, State::IfThen(place))
 }
 
 /// Behind the condition of an `if`.
-pub fn if_then(machine: &mut Machine<'_>, place: Place) -> Result<(), Stop> {
+pub fn if_then(machine: &mut Machine<'_>, place: NodeStart) -> Result<(), Stop> {
     machine.reader.expect(Tok::CloseParen)?;
-    machine.both(State::Statement(Spot::Single), State::IfElse(place))
+    machine.both(
+        State::Statement(StatementPosition::Single),
+        State::IfElse(place),
+    )
 }
 
 /// Behind the first statement of an `if`.
-pub fn if_else(machine: &mut Machine<'_>, place: Place) -> Result<(), Stop> {
+pub fn if_else(machine: &mut Machine<'_>, place: NodeStart) -> Result<(), Stop> {
     machine.reader.field(1);
     if machine.reader.eat(Tok::Else) {
         machine.both(
-            State::Statement(Spot::Single),
+            State::Statement(StatementPosition::Single),
             State::Node {
                 kind: Kind::IfStmt,
                 op: 0,
@@ -45,12 +48,12 @@ pub fn if_else(machine: &mut Machine<'_>, place: Place) -> Result<(), Stop> {
 }
 
 /// `switch`.
-pub fn switch_statement(machine: &mut Machine<'_>, place: Place) -> Result<(), Stop> {
+pub fn switch_statement(machine: &mut Machine<'_>, place: NodeStart) -> Result<(), Stop> {
     condition(machine, State::Switch(place))
 }
 
 /// Behind what a `switch` looks at.
-pub fn switch(machine: &mut Machine<'_>, place: Place) -> Result<(), Stop> {
+pub fn switch(machine: &mut Machine<'_>, place: NodeStart) -> Result<(), Stop> {
     machine.reader.expect(Tok::CloseParen)?;
     machine.reader.expect(Tok::OpenBrace)?;
     machine.then(State::Cases {
@@ -60,7 +63,7 @@ pub fn switch(machine: &mut Machine<'_>, place: Place) -> Result<(), Stop> {
 }
 
 /// The next case of a `switch`, or its end.
-pub fn cases(machine: &mut Machine<'_>, has_default: bool, place: Place) -> Result<(), Stop> {
+pub fn cases(machine: &mut Machine<'_>, has_default: bool, place: NodeStart) -> Result<(), Stop> {
     if machine.reader.last_kind() == Kind::SwitchCase {
         machine.reader.field(1);
     }
@@ -93,19 +96,19 @@ pub fn cases(machine: &mut Machine<'_>, has_default: bool, place: Place) -> Resu
 }
 
 /// Behind the test of a case, or behind `default`.
-pub fn case_test(machine: &mut Machine<'_>, case: Place) -> Result<(), Stop> {
+pub fn case_test(machine: &mut Machine<'_>, case: NodeStart) -> Result<(), Stop> {
     machine.reader.expect(Tok::Colon)?;
     next_consequent(machine, case)
 }
 
 /// Behind a statement of a case.
-pub fn consequent(machine: &mut Machine<'_>, case: Place) -> Result<(), Stop> {
+pub fn consequent(machine: &mut Machine<'_>, case: NodeStart) -> Result<(), Stop> {
     machine.reader.field(1);
     next_consequent(machine, case)
 }
 
 // The next statement of a case, or its end.
-fn next_consequent(machine: &mut Machine<'_>, case: Place) -> Result<(), Stop> {
+fn next_consequent(machine: &mut Machine<'_>, case: NodeStart) -> Result<(), Stop> {
     machine.reader.note()?;
     if matches!(
         machine.reader.tok(),
@@ -113,7 +116,10 @@ fn next_consequent(machine: &mut Machine<'_>, case: Place) -> Result<(), Stop> {
     ) {
         machine.reader.node(Kind::SwitchCase, 0, case)
     } else {
-        machine.both(State::Statement(Spot::List), State::Consequent(case))
+        machine.both(
+            State::Statement(StatementPosition::List),
+            State::Consequent(case),
+        )
     }
 }
 
@@ -139,7 +145,7 @@ pub fn try_statement(machine: &mut Machine<'_>) -> Result<(), Stop> {
 }
 
 /// Behind the block of a `try`.
-pub fn try_end(machine: &mut Machine<'_>, place: Place) -> Result<(), Stop> {
+pub fn try_end(machine: &mut Machine<'_>, place: NodeStart) -> Result<(), Stop> {
     let clause = machine.reader.place();
     if !machine.reader.eat(Tok::Catch) {
         machine.reader.expect(Tok::Finally)?;
@@ -159,14 +165,18 @@ pub fn try_end(machine: &mut Machine<'_>, place: Place) -> Result<(), Stop> {
 }
 
 /// Behind the name or the pattern that a `catch` binds.
-pub fn catch(machine: &mut Machine<'_>, clause: Place, place: Place) -> Result<(), Stop> {
-    machine.reader.pattern(clause.start, Use::Binds)?;
+pub fn catch(machine: &mut Machine<'_>, clause: NodeStart, place: NodeStart) -> Result<(), Stop> {
+    machine.reader.pattern(clause.start, PatternUse::Binds)?;
     machine.reader.expect(Tok::CloseParen)?;
     block(machine, State::CatchBody { clause, place })
 }
 
 /// Behind the block of a `catch`.
-pub fn catch_body(machine: &mut Machine<'_>, clause: Place, place: Place) -> Result<(), Stop> {
+pub fn catch_body(
+    machine: &mut Machine<'_>,
+    clause: NodeStart,
+    place: NodeStart,
+) -> Result<(), Stop> {
     machine.reader.field(1);
     machine.reader.node(Kind::CatchClause, 0, clause)?;
     machine.reader.field(1);
@@ -178,7 +188,7 @@ pub fn catch_body(machine: &mut Machine<'_>, clause: Place, place: Place) -> Res
 }
 
 /// Behind the block of a `finally`.
-pub fn finally(machine: &mut Machine<'_>, place: Place) -> Result<(), Stop> {
+pub fn finally(machine: &mut Machine<'_>, place: NodeStart) -> Result<(), Stop> {
     machine.reader.field(2);
     machine.reader.node(Kind::TryStmt, 0, place)
 }

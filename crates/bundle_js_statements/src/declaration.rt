@@ -3,14 +3,14 @@
 use bundle_js_machine::machine::Machine;
 use bundle_js_machine::state::State;
 use bundle_js_record::kind::Kind;
-use bundle_js_record::pattern::Use;
+use bundle_js_record::pattern::PatternUse;
 use bundle_js_record::reader::Stop;
-use bundle_js_record::record::Place;
+use bundle_js_record::record::NodeStart;
 use bundle_js_scan::token::{Tok, is_word};
-use bundle_tree_leaf::VarDeclKind;
+use bundle_syntax::VarDeclKind;
 
 /// A declaration, at its word.
-pub fn declaration(machine: &mut Machine<'_>, place: Place) -> Result<(), Stop> {
+pub fn declaration(machine: &mut Machine<'_>, place: NodeStart) -> Result<(), Stop> {
     let kind = declared_kind(machine)?;
     machine.both(
         State::Declarators {
@@ -68,9 +68,9 @@ pub fn declarator(
     machine: &mut Machine<'_>,
     is_const: bool,
     no_in: bool,
-    place: Place,
+    place: NodeStart,
 ) -> Result<(), Stop> {
-    machine.reader.pattern(place.start, Use::Binds)?;
+    machine.reader.pattern(place.start, PatternUse::Binds)?;
     let next = State::DeclaratorNext { is_const, no_in };
     if machine.reader.eat(Tok::Assign) {
         return machine.three(

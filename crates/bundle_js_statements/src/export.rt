@@ -7,11 +7,11 @@ use bundle_js_machine::machine::Machine;
 use bundle_js_machine::state::State;
 use bundle_js_record::kind::Kind;
 use bundle_js_record::reader::{Reader, Stop};
-use bundle_js_record::record::Place;
+use bundle_js_record::record::NodeStart;
 use bundle_js_scan::token::Tok;
 
 /// An export, at its word.
-pub fn export_item(machine: &mut Machine<'_>, place: Place) -> Result<(), Stop> {
+pub fn export_item(machine: &mut Machine<'_>, place: NodeStart) -> Result<(), Stop> {
     machine.reader.advance();
     let begin = machine.reader.place();
     let end = State::Node {
@@ -55,7 +55,7 @@ pub fn export_item(machine: &mut Machine<'_>, place: Place) -> Result<(), Stop> 
 }
 
 // Behind `export default`.
-fn default(machine: &mut Machine<'_>, place: Place) -> Result<(), Stop> {
+fn default(machine: &mut Machine<'_>, place: NodeStart) -> Result<(), Stop> {
     let begin = machine.reader.place();
     let end = State::Node {
         kind: Kind::ExportDefaultDecl,
@@ -95,7 +95,7 @@ fn default(machine: &mut Machine<'_>, place: Place) -> Result<(), Stop> {
 }
 
 // `*`, and maybe the name of the namespace.
-fn star(machine: &mut Machine<'_>, place: Place) -> Result<(), Stop> {
+fn star(machine: &mut Machine<'_>, place: NodeStart) -> Result<(), Stop> {
     let begin = machine.reader.place();
     machine.reader.advance();
     if !machine.reader.eat(Tok::As) {
@@ -112,7 +112,7 @@ fn star(machine: &mut Machine<'_>, place: Place) -> Result<(), Stop> {
 }
 
 /// The next name in the braces of an export, or their end.
-pub fn export_names(machine: &mut Machine<'_>, place: Place) -> Result<(), Stop> {
+pub fn export_names(machine: &mut Machine<'_>, place: NodeStart) -> Result<(), Stop> {
     if machine.reader.eat(Tok::CloseBrace) {
         return end_names(machine, place);
     }
@@ -134,7 +134,7 @@ pub fn export_names(machine: &mut Machine<'_>, place: Place) -> Result<(), Stop>
 
 // Behind the braces of an export. Its names are those of another module, or of this one, where no string and no
 // reserved word is a name.
-fn end_names(machine: &mut Machine<'_>, place: Place) -> Result<(), Stop> {
+fn end_names(machine: &mut Machine<'_>, place: NodeStart) -> Result<(), Stop> {
     if machine.reader.eat(Tok::From) {
         return source(machine, Kind::NamedExport, 1, place);
     }
@@ -145,7 +145,7 @@ fn end_names(machine: &mut Machine<'_>, place: Place) -> Result<(), Stop> {
 }
 
 // Where, in the braces that begin at the place, a name stands that can only be another module's.
-fn other_name(reader: &Reader<'_>, place: Place) -> Option<u32> {
+fn other_name(reader: &Reader<'_>, place: NodeStart) -> Option<u32> {
     let names = reader.records.as_slice().get(place.start as usize..)?;
     for rec in names {
         if rec.op == 2 {

@@ -6,11 +6,11 @@ use bundle_js_machine::machine::Machine;
 use bundle_js_machine::state::State;
 use bundle_js_record::kind::Kind;
 use bundle_js_record::reader::Stop;
-use bundle_js_record::record::Place;
+use bundle_js_record::record::NodeStart;
 use bundle_js_scan::token::Tok;
 
 /// What begins with `import` at the top of a module: an import, or an expression.
-pub fn import_item(machine: &mut Machine<'_>, place: Place) -> Result<(), Stop> {
+pub fn import_item(machine: &mut Machine<'_>, place: NodeStart) -> Result<(), Stop> {
     if matches!(machine.reader.peek().kind, Tok::OpenParen | Tok::Dot) {
         return expression_statement(machine, place);
     }
@@ -31,7 +31,7 @@ pub fn import_item(machine: &mut Machine<'_>, place: Place) -> Result<(), Stop> 
 }
 
 // Behind the name of the default.
-fn behind_default(machine: &mut Machine<'_>, place: Place) -> Result<(), Stop> {
+fn behind_default(machine: &mut Machine<'_>, place: NodeStart) -> Result<(), Stop> {
     if !machine.reader.eat(Tok::Comma) {
         return from(machine, place);
     }
@@ -43,13 +43,13 @@ fn behind_default(machine: &mut Machine<'_>, place: Place) -> Result<(), Stop> {
 }
 
 // `from` and the module.
-fn from(machine: &mut Machine<'_>, place: Place) -> Result<(), Stop> {
+fn from(machine: &mut Machine<'_>, place: NodeStart) -> Result<(), Stop> {
     machine.reader.expect(Tok::From)?;
     source(machine, Kind::ImportDecl, 1, place)
 }
 
 // `* as` and a name.
-fn star(machine: &mut Machine<'_>, place: Place) -> Result<(), Stop> {
+fn star(machine: &mut Machine<'_>, place: NodeStart) -> Result<(), Stop> {
     let begin = machine.reader.place();
     machine.reader.advance();
     machine.reader.expect(Tok::As)?;
@@ -59,7 +59,7 @@ fn star(machine: &mut Machine<'_>, place: Place) -> Result<(), Stop> {
 }
 
 /// The next name in the braces of an import, or their end.
-pub fn import_names(machine: &mut Machine<'_>, place: Place) -> Result<(), Stop> {
+pub fn import_names(machine: &mut Machine<'_>, place: NodeStart) -> Result<(), Stop> {
     if machine.reader.eat(Tok::CloseBrace) {
         return from(machine, place);
     }

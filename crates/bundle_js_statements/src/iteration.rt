@@ -3,16 +3,16 @@
 use crate::choice::condition;
 use crate::declaration::declared_kind;
 use bundle_js_machine::machine::Machine;
-use bundle_js_machine::state::{Spot, State};
+use bundle_js_machine::state::{State, StatementPosition};
 use bundle_js_record::kind::Kind;
-use bundle_js_record::pattern::Use;
+use bundle_js_record::pattern::PatternUse;
 use bundle_js_record::reader::Stop;
-use bundle_js_record::record::{Place, Rec};
+use bundle_js_record::record::{NodeStart, Rec};
 use bundle_js_scan::token::Tok;
-use bundle_tree_leaf::VarDeclKind;
+use bundle_syntax::VarDeclKind;
 
 /// `while`.
-pub fn while_statement(machine: &mut Machine<'_>, place: Place) -> Result<(), Stop> {
+pub fn while_statement(machine: &mut Machine<'_>, place: NodeStart) -> Result<(), Stop> {
     condition(
         machine,
         State::Body {
@@ -30,14 +30,14 @@ pub fn body(
     kind: Kind,
     op: u8,
     field: u8,
-    place: Place,
+    place: NodeStart,
 ) -> Result<(), Stop> {
     machine.reader.expect(Tok::CloseParen)?;
     if kind != Kind::ForStmt {
         machine.reader.field(field.saturating_sub(1));
     }
     machine.both(
-        State::Statement(Spot::Single),
+        State::Statement(StatementPosition::Single),
         State::Node {
             kind,
             op,
@@ -48,13 +48,16 @@ pub fn body(
 }
 
 /// `do`.
-pub fn do_statement(machine: &mut Machine<'_>, place: Place) -> Result<(), Stop> {
+pub fn do_statement(machine: &mut Machine<'_>, place: NodeStart) -> Result<(), Stop> {
     machine.reader.advance();
-    machine.both(State::Statement(Spot::Single), State::DoTest(place))
+    machine.both(
+        State::Statement(StatementPosition::Single),
+        State::DoTest(place),
+    )
 }
 
 /// Behind the body of a `do`.
-pub fn do_test(machine: &mut Machine<'_>, place: Place) -> Result<(), Stop> {
+pub fn do_test(machine: &mut Machine<'_>, place: NodeStart) -> Result<(), Stop> {
     machine.reader.field(0);
     if machine.reader.tok() != Tok::While {
         return Err(machine.reader.unexpected());
@@ -63,7 +66,7 @@ pub fn do_test(machine: &mut Machine<'_>, place: Place) -> Result<(), Stop> {
 }
 
 /// Behind the condition of a `do`. The semicolon may always be left out (12.10.1).
-pub fn do_end(machine: &mut Machine<'_>, place: Place) -> Result<(), Stop> {
+pub fn do_end(machine: &mut Machine<'_>, place: NodeStart) -> Result<(), Stop> {
     machine.reader.expect(Tok::CloseParen)?;
     machine.reader.field(1);
     let _ = machine.reader.eat(Tok::Semicolon);
@@ -71,7 +74,7 @@ pub fn do_end(machine: &mut Machine<'_>, place: Place) -> Result<(), Stop> {
 }
 
 /// `for`.
-pub fn for_statement(machine: &mut Machine<'_>, place: Place) -> Result<(), Stop> {
+pub fn for_statement(machine: &mut Machine<'_>, place: NodeStart) -> Result<(), Stop> {
     machine.reader.advance();
     let awaits = machine.reader.tok() == Tok::Await;
     if awaits {
@@ -105,7 +108,7 @@ pub fn for_statement(machine: &mut Machine<'_>, place: Place) -> Result<(), Stop
 }
 
 /// Behind the first part of the head of a `for`.
-pub fn for_head(machine: &mut Machine<'_>, awaits: bool, place: Place) -> Result<(), Stop> {
+pub fn for_head(machine: &mut Machine<'_>, awaits: bool, place: NodeStart) -> Result<(), Stop> {
     match machine.reader.tok() {
         Tok::Of => {
             left(machine, place)?;
@@ -144,7 +147,7 @@ pub fn for_head(machine: &mut Machine<'_>, awaits: bool, place: Place) -> Result
 }
 
 // What a `for` over values or keys assigns to or declares: one name or pattern, with no value.
-fn left(machine: &mut Machine<'_>, place: Place) -> Result<(), Stop> {
+fn left(machine: &mut Machine<'_>, place: NodeStart) -> Result<(), Stop> {
     let last = machine.reader.last();
     if last.kind == Kind::VarDecl {
         let declarator = before(machine, 2);
@@ -157,7 +160,7 @@ fn left(machine: &mut Machine<'_>, place: Place) -> Result<(), Stop> {
     if last.kind == Kind::AssignExpr {
         return Err(refuse_head(machine));
     }
-    machine.reader.pattern(place.start, Use::Assigns)
+    machine.reader.pattern(place.start, PatternUse::Assigns)
 }
 
 // What stands at the head is refused.
@@ -173,7 +176,7 @@ fn before(machine: &Machine<'_>, count: usize) -> Rec {
 }
 
 // Whether all that stands at the head is the word `async`, with no escape.
-fn is_async(machine: &Machine<'_>, place: Place) -> bool {
+fn is_async(machine: &Machine<'_>, place: NodeStart) -> bool {
     let last = machine.reader.last();
     last.kind == Kind::BindingIdent
         && place.start.saturating_add(1) == machine.reader.end()
@@ -182,7 +185,7 @@ fn is_async(machine: &Machine<'_>, place: Place) -> bool {
 }
 
 // Behind the first part of the head of a `for` of three.
-fn for_first(machine: &mut Machine<'_>, place: Place) -> Result<(), Stop> {
+fn for_first(machine: &mut Machine<'_>, place: NodeStart) -> Result<(), Stop> {
     machine.reader.expect(Tok::Semicolon)?;
     if machine.reader.tok() == Tok::Semicolon {
         machine.then(State::ForTest(place))
@@ -196,7 +199,7 @@ fn for_first(machine: &mut Machine<'_>, place: Place) -> Result<(), Stop> {
 }
 
 /// Behind the second part of the head of a `for`.
-pub fn for_test(machine: &mut Machine<'_>, place: Place) -> Result<(), Stop> {
+pub fn for_test(machine: &mut Machine<'_>, place: NodeStart) -> Result<(), Stop> {
     machine.reader.expect(Tok::Semicolon)?;
     if machine.reader.tok() == Tok::CloseParen {
         for_body(machine, place)
@@ -206,12 +209,12 @@ pub fn for_test(machine: &mut Machine<'_>, place: Place) -> Result<(), Stop> {
 }
 
 /// Behind the third part of the head of a `for`.
-pub fn for_update(machine: &mut Machine<'_>, place: Place) -> Result<(), Stop> {
+pub fn for_update(machine: &mut Machine<'_>, place: NodeStart) -> Result<(), Stop> {
     machine.reader.field(2);
     for_body(machine, place)
 }
 
-fn for_body(machine: &mut Machine<'_>, place: Place) -> Result<(), Stop> {
+fn for_body(machine: &mut Machine<'_>, place: NodeStart) -> Result<(), Stop> {
     machine.then(State::Body {
         kind: Kind::ForStmt,
         op: 0,

@@ -3,11 +3,16 @@
 use bundle_js_machine::machine::Machine;
 use bundle_js_record::kind::Kind;
 use bundle_js_record::reader::Stop;
-use bundle_js_record::record::Place;
+use bundle_js_record::record::NodeStart;
 use bundle_js_scan::token::{Tok, Token, is_word};
 
 /// The string that names a module, and the end of the import or the export, where it stands in this field.
-pub fn source(machine: &mut Machine<'_>, kind: Kind, field: u8, place: Place) -> Result<(), Stop> {
+pub fn source(
+    machine: &mut Machine<'_>,
+    kind: Kind,
+    field: u8,
+    place: NodeStart,
+) -> Result<(), Stop> {
     if machine.reader.tok() != Tok::Str {
         return Err(machine.reader.unexpected());
     }

@@ -6,10 +6,10 @@ use crate::export::export_item;
 use crate::import::import_item;
 use crate::iteration::{do_statement, for_statement, while_statement};
 use bundle_js_machine::machine::Machine;
-use bundle_js_machine::state::{Spot, State};
+use bundle_js_machine::state::{State, StatementPosition};
 use bundle_js_record::kind::Kind;
 use bundle_js_record::reader::Stop;
-use bundle_js_record::record::Place;
+use bundle_js_record::record::NodeStart;
 use bundle_js_scan::lexer::Goal;
 use bundle_js_scan::token::Tok;
 
@@ -19,7 +19,7 @@ pub fn statements(
     machine: &mut Machine<'_>,
     kind: Kind,
     directives: bool,
-    place: Place,
+    place: NodeStart,
 ) -> Result<(), Stop> {
     machine.reader.note()?;
     let directives = directives && still_directs(machine, place)?;
@@ -29,22 +29,22 @@ pub fn statements(
         machine.reader.advance();
         return machine.reader.node(kind, 0, place);
     }
-    let spot = if is_module && machine.goal == Goal::Module {
-        Spot::Top
+    let position = if is_module && machine.goal == Goal::Module {
+        StatementPosition::Top
     } else {
-        Spot::List
+        StatementPosition::List
     };
     machine.then(State::Statements {
         kind,
         directives,
         place,
     })?;
-    statement(machine, spot)
+    statement(machine, position)
 }
 
 // Whether the list, which begins at the place, holds nothing but directives; refused where the last of them is
 // `"use strict"` (15.2.1).
-fn still_directs(machine: &mut Machine<'_>, place: Place) -> Result<bool, Stop> {
+fn still_directs(machine: &mut Machine<'_>, place: NodeStart) -> Result<bool, Stop> {
     let end = machine.reader.end();
     if end == place.start {
         return Ok(true);
@@ -61,7 +61,7 @@ fn still_directs(machine: &mut Machine<'_>, place: Place) -> Result<bool, Stop> 
 }
 
 /// A statement.
-pub fn statement(machine: &mut Machine<'_>, spot: Spot) -> Result<(), Stop> {
+pub fn statement(machine: &mut Machine<'_>, position: StatementPosition) -> Result<(), Stop> {
     let place = machine.reader.place();
     match machine.reader.tok() {
         Tok::OpenBrace => {
@@ -91,15 +91,15 @@ pub fn statement(machine: &mut Machine<'_>, spot: Spot) -> Result<(), Stop> {
         Tok::Continue => jump(machine, Kind::ContinueStmt, place),
         Tok::With => with_statement(machine, place),
         Tok::Var => declaration(machine, place),
-        _ => declaration_or_expression(machine, spot, place),
+        _ => declaration_or_expression(machine, position, place),
     }
 }
 
 // A declaration, which stands in a list alone, or an expression.
 fn declaration_or_expression(
     machine: &mut Machine<'_>,
-    spot: Spot,
-    place: Place,
+    position: StatementPosition,
+    place: NodeStart,
 ) -> Result<(), Stop> {
     let tok = machine.reader.tok();
     let declares = match tok {
@@ -107,7 +107,7 @@ fn declaration_or_expression(
         Tok::Async => begins_function(machine),
         _ => false,
     };
-    if declares && spot == Spot::Single {
+    if declares && position == StatementPosition::Single {
         return Err(Stop::Declaration);
     }
     match tok {
@@ -118,8 +118,8 @@ fn declaration_or_expression(
                 place,
             })
         }
-        Tok::Import if spot == Spot::Top => import_item(machine, place),
-        Tok::Export if spot == Spot::Top => export_item(machine, place),
+        Tok::Import if position == StatementPosition::Top => import_item(machine, place),
+        Tok::Export if position == StatementPosition::Top => export_item(machine, place),
         _ if declares => {
             machine.then(State::Function {
                 kind: Kind::FnDecl,
@@ -137,7 +137,7 @@ pub fn begins_function(machine: &Machine<'_>) -> bool {
 }
 
 /// An expression that is a statement, or a label.
-pub fn expression_statement(machine: &mut Machine<'_>, place: Place) -> Result<(), Stop> {
+pub fn expression_statement(machine: &mut Machine<'_>, place: NodeStart) -> Result<(), Stop> {
     machine.both(
         State::Expression { no_in: false },
         State::ExpressionEnd(place),
@@ -145,7 +145,7 @@ pub fn expression_statement(machine: &mut Machine<'_>, place: Place) -> Result<(
 }
 
 /// Behind an expression that is a statement, or behind the name of a label (14.13).
-pub fn expression_end(machine: &mut Machine<'_>, place: Place) -> Result<(), Stop> {
+pub fn expression_end(machine: &mut Machine<'_>, place: NodeStart) -> Result<(), Stop> {
     let is_name = machine.reader.last_kind() == Kind::Ident
         && place.start.saturating_add(1) == machine.reader.end();
     if is_name && machine.reader.tok() == Tok::Colon {
@@ -153,7 +153,7 @@ pub fn expression_end(machine: &mut Machine<'_>, place: Place) -> Result<(), Sto
         machine.reader.mark(0);
         machine.reader.advance();
         return machine.both(
-            State::Statement(Spot::Single),
+            State::Statement(StatementPosition::Single),
             State::Node {
                 kind: Kind::LabeledStmt,
                 op: 0,
@@ -166,7 +166,7 @@ pub fn expression_end(machine: &mut Machine<'_>, place: Place) -> Result<(), Sto
 }
 
 // `return`, and what it returns, which begins on the same line (14.10).
-fn return_statement(machine: &mut Machine<'_>, place: Place) -> Result<(), Stop> {
+fn return_statement(machine: &mut Machine<'_>, place: NodeStart) -> Result<(), Stop> {
     if !machine.context.returns {
         return Err(Stop::Return);
     }
@@ -184,7 +184,7 @@ fn return_statement(machine: &mut Machine<'_>, place: Place) -> Result<(), Stop>
 }
 
 // `throw` and its expression, which begins on the same line (14.14).
-fn throw_statement(machine: &mut Machine<'_>, place: Place) -> Result<(), Stop> {
+fn throw_statement(machine: &mut Machine<'_>, place: NodeStart) -> Result<(), Stop> {
     machine.reader.advance();
     if machine.reader.newline() {
         return Err(Stop::Newline);
@@ -200,7 +200,7 @@ fn throw_statement(machine: &mut Machine<'_>, place: Place) -> Result<(), Stop> 
 }
 
 // `with`, which the linker refuses (14.11).
-fn with_statement(machine: &mut Machine<'_>, place: Place) -> Result<(), Stop> {
+fn with_statement(machine: &mut Machine<'_>, place: NodeStart) -> Result<(), Stop> {
     condition(
         machine,
         State::Body {
@@ -213,7 +213,7 @@ fn with_statement(machine: &mut Machine<'_>, place: Place) -> Result<(), Stop> {
 }
 
 // `break` or `continue`, and a label on the same line (14.8 and 14.9).
-fn jump(machine: &mut Machine<'_>, kind: Kind, place: Place) -> Result<(), Stop> {
+fn jump(machine: &mut Machine<'_>, kind: Kind, place: NodeStart) -> Result<(), Stop> {
     machine.reader.advance();
     if !machine.reader.may_end() {
         let tok = machine.reader.tok();

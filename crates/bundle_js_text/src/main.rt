@@ -5,7 +5,7 @@
 
 use bundle_js_print::{Charset, Printed, print_pieces};
 use bundle_json_form::{FormError, read_module};
-use bundle_tree_leaf::ExportMetadata;
+use bundle_syntax::ExportMetadata;
 use json::{Error, Scratch, Value};
 use std::alloc::Global;
 use std::io::{Read, Write};

@@ -1,16 +1,8 @@
 mod ByItem
 mod Fronts
-mod Handed
-mod Kept
-mod laid
-mod Lists
 mod Maps
-mod Modules
+mod laid
 mod Numbers
-mod Objects
-mod Parts
-mod Refusals
-mod Results
 mod Turns
 mod Wanting
 mod Whole

@@ -1,22 +1,111 @@
+-- The module of a file that is handed over, and what is left in a document then.
+-- Two lists that grow by one place each.
 -- Members of an object beside the entries of a map: those that are put in as they are read, and those that are put
 -- in the order of their names.
-use Rattle.std.proofs.Common.{◌≡◌, ◌+◌, ◌<◌, ℕ, List, [], ◌∷◌, ◌++◌, length, take, get_or, Bor, String, Global, Ordering, Less, Equal, Greater, string_bytes, string_cmp, nat_cmp, refl, ap, sym, subst, append_assoc, ◌∙◌}
-use Rattle.std.proofs.lemmas.Cmp.{nat_list_cmp_total}
-use Rattle.std.proofs.lemmas.List.{take_more}
-use Rattle.std.specs.BTreeMap.{insert_entry}
+use Rattle.std.proofs.Common.{◌≡◌, ◌≢◌, ℕ, Bool, true, false, List, None, Some, String, Global, Equal, bytes_eq, nat_cmp, string_bytes, string_cmp, refl, sym, ap, subst, ◌∙◌, ◌+◌, ◌<◌, [], ◌∷◌, ◌++◌, length, take, get_or, map, Vec, Bor, Ordering, Less, Greater, append_assoc}
+use Rattle.std.specs.BTreeMap.{get_by_text, BTreeMap, UpdatesBy, insert_entry}
 use Rattle.std.specs.Cmp.Lexicographic.{slice_cmp}
-use Rattle.std.specs.List.{AllByRecursion, AllZip}
+use Rattle.std.specs.Prelude.{IsSomeAnd}
+use Rattle.std.proofs.lemmas.Bool.{cond-false}
+use Rattle.std.proofs.lemmas.Map.Lookups.{exact_bytes}
+use Rattle.std.proofs.lemmas.Map.Text.{btree_map_updates_text}
+use Rattle.std.proofs.lemmas.Slice.Eq.{bytes_eq-Decides}
+use Rattle.std.proofs.lemmas.List.{take_more, map-append}
+use Rattle.std.specs.List.{AllZip, AllByRecursion}
+use Rattle.std.proofs.lemmas.Cmp.{nat_list_cmp_total}
 use Rattle.std.specs.List.Sorted.{IsStrictlySortedBy}
 use Rattle.std.specs.Map.{keys_of}
 use Rattle.std.specs.Ordering.{match_ordering, ordering_reverse}
-use Rattle.json.specs.Value.{members_view}
-use Rattle.json.specs.declared.value.Value.{Value}
-use Rattle.serde_json.specs.Data.{Data, Members, no_members, member, object, put}
-use Rattle.serde_json.specs.View.{members_of}
-use Rattle.bundle_json_form.specs.Plain.{plain_members, seen}
+use Rattle.bundle_tree_names.specs.FileName.{Name, real, custom, name_of}
+use Rattle.json.specs.Value.{items_view, members_view}
+use Rattle.serde_json.specs.Data.{Data, null, boolean, number, string, item, array, object, no_members, Members, member, put}
+use Rattle.serde_json.specs.Find.{as_array}
+use Rattle.serde_json.specs.View.{items_of, members_of}
+use Rattle.json.specs.declared.value.Value.{Value, Object}
+use Rattle.json.proofs.Trees.{view-Object}
+use Rattle.bundle_tree_ast.specs.declared.module.Module.{Module}
+use Rattle.bundle_json_form.specs.Plain.{items_seen, plain, plain_items, plain_members, seen}
+use Rattle.bundle_json_form.proofs.Growth.{append_nil}
+use Rattle.bundle_tree_listed.specs.Tree.{module_items}
+use Rattle.bundle_tree.specs.declared.load.ModuleData.{ModuleData}
+use Rattle.bundle_json_document.specs.Parties.{file_module, GivesModule, LacksModule}
 use Rattle.bundle_json_document.specs.Document.{IsMap}
 use Rattle.bundle_json_document.specs.Seen.{last_members}
-use Rattle.bundle_json_document.proofs.Lists.{zip_more}
+
+-- ---- handed
+
+-- what is found at a path, under the name that it has there, is the module of the file
+pub handed : (files : BTreeMap (String Global) Module) (file : Name) (path : List ℕ) (given : ModuleData)
+    → file ≡ real path
+    → (name : List ℕ) → name_of given.file_name ≡ real name → slice_cmp nat_cmp path name ≡ Equal
+    → Some given.module ≡ get_by_text files path
+    → GivesModule files file given
+handed files file path given is name called same found = record {
+  name = called ∙ ap real (sym (exact_bytes path name same)) ∙ sym is;
+  tree = subst (λ f. IsSomeAnd (file_module files f) (λ its. module_items 0 given.module ≡ module_items 0 its)) (sym is)
+      (subst (λ o. IsSomeAnd o (λ its. module_items 0 given.module ≡ module_items 0 its)) found refl);
+}
+
+-- texts that differ
+differ : (path other : List ℕ) → (path ≡ other → ⊥) → bytes_eq path other ≡ false
+differ path other apart = by (bytes_eq path other) refl
+  where
+    by : (b : Bool) → bytes_eq path other ≡ b → bytes_eq path other ≡ false
+    by true is = absurd (apart ((bytes_eq-Decides path other).0 is))
+    by false is = is
+
+module _ (old new : BTreeMap (String Global) Module) (path : List ℕ) (updates : UpdatesBy string_cmp (λ k. slice_cmp nat_cmp path (string_bytes k)) old new None)
+    (file : Name) (is : file ≡ real path) where
+  -- each other file has the module that it had
+  left : (other : Name) → other ≢ file → file_module new other ≡ file_module old other
+  left (custom text) apart = refl
+  left (real text) apart =
+      btree_map_updates_text path old new None updates text
+      ∙ cond-false (bytes_eq path text) None (get_by_text old text) (differ path text (λ same. apart (ap real (sym same) ∙ sym is)))
+
+  pub still_gives : (other : Name) (given : ModuleData) → other ≢ file → GivesModule new other given → GivesModule old other given
+  still_gives other given apart its = record {
+    name = its.name;
+    tree = subst (λ o. IsSomeAnd o (λ its_tree. module_items 0 given.module ≡ module_items 0 its_tree)) (left other apart) its.tree;
+  }
+
+  pub still_lacks : (other : Name) → other ≢ file → LacksModule new other → LacksModule old other
+  still_lacks other apart its = record { none = sym (left other apart) ∙ its.none }
+
+-- ---- lists
+
+-- one place more
+pub zip_more : {A B : Type 0} (R : A → B → Type 0) (xs : List A) (ys : List B) (x : A) (y : B) → AllZip R xs ys → R x y → AllZip R (xs ++ x ∷ []) (ys ++ y ∷ [])
+zip_more R [] [] x y all here = (here, tt)
+zip_more R [] (b ∷ ys) x y all here = absurd all
+zip_more R (a ∷ xs) [] x y all here = absurd all
+zip_more R (a ∷ xs) (b ∷ ys) x y all here = (all.0, zip_more R xs ys x y all.1 here)
+
+-- one value more, seen as data
+pub values_more : {Y : Type 0} (R : Data → Y → Type 0) (values : List (Value Global)) (ys : List Y) (i : ℕ) (value : Value Global) (y : Y) → i < length values → value ≡ get_or values i value → AllZip R (map seen (take i values)) ys → R (seen value) y
+    → AllZip R (map seen (take (i + 1) values)) (ys ++ y ∷ [])
+values_more R values ys i value y inside is all here =
+    let front : take (i + 1) values ≡ take i values ++ value ∷ [] = take_more values i value inside ∙ ap (λ it. take i values ++ it ∷ []) (sym is) in
+    rw (front, map-append seen (take i values) (value ∷ [])) (zip_more R _ ys (seen value) y all here)
+
+-- the items of an array, seen one by one
+pub each_seen : (values : List (Value Global)) → plain_items (items_view values) ≡ items_of (map seen values)
+each_seen [] = refl
+each_seen (value ∷ values) = ap (item (seen value)) (each_seen values)
+
+-- the items that were found are those of the array
+pub array_found : (d : Data) (list : List (Value Global)) → Some (items_seen list) ≡ as_array d → d ≡ array (items_of (map seen list))
+array_found null list e = absurd (cc)
+array_found (boolean b) list e = absurd (cc)
+array_found (number n) list e = absurd (cc)
+array_found (string s) list e = absurd (cc)
+array_found (array ds) list e = let same : items_seen list ≡ ds = (cc) in ap array (sym same ∙ each_seen list)
+array_found (object ms) list e = absurd (cc)
+
+pub seen_object : (list : Vec (Bor (List ℕ) × Value Global) Global) → seen (Object list) ≡ object (plain_members (members_view list.items) no_members)
+seen_object list = ap plain (view-Object list)
+
+-- ---- maps
 
 -- the same name, and what is asked of the value
 abbrev pub Named : {X : Type 0} → (Data → X → Type 0) → String Global × Data → String Global × X → Type 0
@@ -140,10 +229,6 @@ each_named R (e ∷ es) [] all = absurd all
 each_named R (e ∷ es) (x ∷ xs) all =
     let rest = each_named R es xs all.1 in
     ((x.0, seen e.1.now) ∷ rest.0, ap (member e.0.now (seen e.1.now)) rest.1 ∙ ap (λ k. member k (seen e.1.now) (members_of rest.0)) all.0.0, ((refl, all.0.1), rest.2))
-
-append_nil : {A : Type 0} (xs : List A) → xs ++ [] ≡ xs
-append_nil [] = refl
-append_nil (x ∷ xs) = ap (λ r. x ∷ r) (append_nil xs)
 
 -- the map of the last member of each key
 pub last_map : {X : Type 0} (R : Data → X → Type 0) (all left : List Entry) (xs : List (String Global × X)) → (done : List Entry) × (all ≡ done ++ left) × AllZip (Under R) done xs → left ≡ []

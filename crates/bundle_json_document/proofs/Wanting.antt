@@ -6,12 +6,12 @@ use Rattle.bundle_tree_names.specs.FileName.{Name}
 use Rattle.bundle_tree_names.specs.declared.error.Error.TheVariants.{OutOfMemory}
 use Rattle.bundle_rules.specs.Judging.{at_once, same}
 use Rattle.bundle_rules.specs.Kept.{nothing_kept}
-use Rattle.bundle_json_document.specs.Answer.{IsRefusal}
+use Rattle.bundle_json_document.specs.Answer.{IsDocumentRefusal}
 use Rattle.bundle_json_document.specs.declared.document.Document.{Document}
 
 pub wants_memory : (may_give : Name → Bool → List (KeyValueProp Expr) → Type 0)
     (may_fail_hook : Name → Bool → Type 0) (document : Document) →
-    IsRefusal may_give may_fail_hook document OutOfMemory
+    IsDocumentRefusal may_give may_fail_hook document OutOfMemory
 wants_memory may_give may_fail_hook document = record {
   kept = nothing_kept;
   headline = record {

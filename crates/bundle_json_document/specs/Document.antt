@@ -12,7 +12,7 @@ use Rattle.serde_json.specs.Data.{Data, unsigned, string, array, object, item, n
 use Rattle.serde_json.specs.Find.{get, as_bool, as_number, as_array, as_object}
 use Rattle.serde_json.specs.Read.{max_depth, read}
 use Rattle.serde_json.specs.View.{items_of, members_of}
-use Rattle.bundle_tree_leaf.specs.declared.kind.ExportMetadata.{ExportMetadata}
+use Rattle.bundle_syntax.specs.declared.kind.ExportMetadata.{ExportMetadata}
 use Rattle.bundle_tree_ast.specs.declared.expr.Expr.{Expr}
 use Rattle.bundle_tree_ast.specs.declared.module.Module.{Module}
 use Rattle.bundle_tree_ast.specs.declared.prop.KeyValueProp.{KeyValueProp}
@@ -34,8 +34,8 @@ pub record IsValueOf (text : List ℕ) (d : Data) : Type 0 where
   pub whole : holds_of_read is_whole (next_value max_depth (tokens text)) ≡ true
 
 -- the value is an array, and its items stand one by one for these
-abbrev pub IsList : {X : Type 0} → (Data → X → Type 0) → List X → Data → Type 0
-IsList R xs d = (ds : List Data) × (d ≡ array (items_of ds)) × AllZip R ds xs
+abbrev pub IsArrayOf : {X : Type 0} → (Data → X → Type 0) → List X → Data → Type 0
+IsArrayOf R xs d = (ds : List Data) × (d ≡ array (items_of ds)) × AllZip R ds xs
 
 -- the value is an object, and its members stand one by one for these, under their names
 abbrev pub IsMap : {X : Type 0} → (Data → X → Type 0) → List (String Global × X) → Data → Type 0
@@ -53,9 +53,9 @@ abbrev pub IsText : Data → String Global → Type 0
 IsText d text = d ≡ string (string_bytes text)
 
 -- a list of texts, or none
-abbrev pub AreTexts : Option Data → List (String Global) → Type 0
-AreTexts None texts = texts ≡ []
-AreTexts (Some d) texts = IsList IsText texts d
+abbrev pub IsTextList : Option Data → List (String Global) → Type 0
+IsTextList None texts = texts ≡ []
+IsTextList (Some d) texts = IsArrayOf IsText texts d
 
 -- the word for what a bundle is written as
 abbrev pub module_word : ModuleType → List ℕ
@@ -76,8 +76,8 @@ IsLimit (Some d) limit = (as_number d ≡ Some (unsigned limit)) × (limit < 2 ^
 pub record IsConfig (d : Data) (config : Config) : Type 0 where
   pub require : IsTruth (get (codes "require") d) config.require
   pub hygiene : IsTruth (get (codes "disable_hygiene") d) config.disable_hygiene
-  pub external : AreTexts (get (codes "external_modules") d) config.external_modules.items
-  pub kind : IsModuleType (get (codes "module") d) config.«module»
+  pub external : IsTextList (get (codes "external_modules") d) config.external_modules.items
+  pub kind : IsModuleType (get (codes "module") d) config.module
   pub limit : IsLimit (get (codes "max_modules") d) config.max_modules
 
 -- an object with these settings, or none and the settings to start from
@@ -88,26 +88,26 @@ AreSettings (Some d) config = IsSome (as_object d) × IsConfig d config
 -- Entries, files and properties.
 
 -- a pair of texts, the name and the path of a real file
-abbrev pub IsEntry : Data → String Global × FileName → Type 0
-IsEntry d entry = (path : List ℕ) × (d ≡ array (item (string (string_bytes entry.0)) (item (string path) no_items))) × (name_of entry.1 ≡ real path)
+abbrev pub IsEntryPair : Data → String Global × FileName → Type 0
+IsEntryPair d entry = (path : List ℕ) × (d ≡ array (item (string (string_bytes entry.0)) (item (string path) no_items))) × (name_of entry.1 ≡ real path)
 
 -- what is noted on what is handed in: nothing
-abbrev pub no_notes : ExportMetadata
-no_notes = record { injected = false; export_ctxt = None }
+abbrev pub no_document_notes : ExportMetadata
+no_document_notes = record { injected = false; export_ctxt = None }
 
 -- the form of a module
-abbrev pub IsModule : Data → Module → Type 0
-IsModule d it = IsForm no_notes top d (module_items 0 it)
+abbrev pub IsModuleForm : Data → Module → Type 0
+IsModuleForm d it = IsForm no_document_notes top d (module_items 0 it)
 
 -- the forms of a list of properties
 abbrev pub AreProperties : Data → Vec (KeyValueProp Expr) Global → Type 0
-AreProperties d props = IsSomeAnd (as_array d) (λ ds. AreForms no_notes top ds (flat_map (key_value_prop_items 0) props.items))
+AreProperties d props = IsSomeAnd (as_array d) (λ ds. AreForms no_document_notes top ds (flat_map (key_value_prop_items 0) props.items))
 
 -- the value asks for just this; what it has under other names is passed over
 pub record IsDocument (d : Data) (document : Document) : Type 0 where
   pub config : AreSettings (get (codes "config") d) document.config
-  pub entries : IsSomeAnd (get (codes "entries") d) (IsList IsEntry document.entries.items)
-  pub files : IsSomeAnd (get (codes "files") d) (IsMap IsModule document.files.entries)
+  pub entries : IsSomeAnd (get (codes "entries") d) (IsArrayOf IsEntryPair document.entries.items)
+  pub files : IsSomeAnd (get (codes "files") d) (IsMap IsModuleForm document.files.entries)
 
 -- the properties of `import.meta` that the value lists for files, or none
 abbrev pub AreLists : Option Data → List (String Global × Vec (KeyValueProp Expr) Global) → Type 0
@@ -115,7 +115,8 @@ AreLists None lists = lists ≡ []
 AreLists (Some d) lists = IsMap AreProperties lists d
 
 -- the text is that of a document with these lists
-pub record IsDocumentText (text : List ℕ) (document : Document) (lists : List (String Global × Vec (KeyValueProp Expr) Global)) : Type 0 where
+pub record IsDocumentText (text : List ℕ) (document : Document)
+    (lists : List (String Global × Vec (KeyValueProp Expr) Global)) : Type 0 where
   pub value : Data
   pub is_read : IsValueOf text value
   pub is_document : IsDocument value document
@@ -123,11 +124,14 @@ pub record IsDocumentText (text : List ℕ) (document : Document) (lists : List 
 
 -- the text is that of no document, with whatever lists
 abbrev pub IsNoDocumentText : List ℕ → Type 0
-IsNoDocumentText text = (document : Document) (lists : List (String Global × Vec (KeyValueProp Expr) Global)) → ¬ IsDocumentText text document lists
+IsNoDocumentText text =
+    (document : Document) (lists : List (String Global × Vec (KeyValueProp Expr) Global)) →
+    ¬ IsDocumentText text document lists
 
 -- what was there to be read is read whole, and it is the text of no document
 abbrev pub HasNoDocument : Option (List ℕ) → Option (List ℕ) → Type 0
-HasNoDocument old new = (text : List ℕ) × Consumes old new text × IsAtEnd new × IsNoDocumentText text
+HasNoDocument old new =
+    (text : List ℕ) × Consumes old new text × IsAtEnd new × IsNoDocumentText text
 
 -- the status and the line of an input that cannot be read, where reading may fail, of a text that is no document, and of
 -- want of memory

@@ -2,8 +2,8 @@
 use Rattle.std.specs.Prelude.{◌≡◌}
 use Rattle.bundle_json_form.specs.declared.error.FormError.{FormError}
 use Rattle.bundle_json_form.specs.declared.error.FormError.TheVariants.{Form as NoForm, OutOfMemory as NoMemory}
-use Rattle.bundle_tree_build.specs.declared.build.BuildError.{BuildError}
-use Rattle.bundle_tree_build.specs.declared.build.BuildError.TheVariants.{Form as NoTree, OutOfMemory as NoRoom}
+use Rattle.bundle_tree_parse.specs.declared.build.BuildError.{BuildError}
+use Rattle.bundle_tree_parse.specs.declared.build.BuildError.TheVariants.{Form as NoTree, OutOfMemory as NoRoom}
 use Rattle.bundle_json_document.specs.declared.error.DocumentError.{DocumentError}
 use Rattle.bundle_json_document.specs.declared.error.DocumentError.TheVariants.{Form, OutOfMemory}
 

@@ -7,8 +7,8 @@ use Rattle.serde_json.specs.Data.{Data, Members, member, no_members}
 use Rattle.bundle_json_form.specs.Plain.{seen}
 
 -- what a look-up found
-abbrev pub found : Option (Bor (Value Global)) → Option Data
-found it = option_map (λ value. seen value.now) it
+abbrev pub value_found : Option (Bor (Value Global)) → Option Data
+value_found it = option_map (λ value. seen value.now) it
 
 -- the members of an object, each key once
 abbrev pub last_members : List (Bor (List ℕ) × Bor (Value Global)) → Members

@@ -3,7 +3,7 @@
 ghost use Rattle.std.specs.Prelude.{◌≡◌, ◌≢◌, ◌⊎◌, ℕ, List, ◌++◌, codes, string_bytes, IfOk, IfErr};
 ghost use Rattle.std.specs.Io.KnownBytes.{Appends};
 ghost use Rattle.bundle_tree_names.specs.declared.error.Error.{Error};
-ghost use Rattle.bundle_json_document.specs.Answer.{line_of as line_in, IsAnswer, IsRefusal};
+ghost use Rattle.bundle_json_document.specs.Answer.{line_of as line_in, IsDocumentAnswer, IsDocumentRefusal};
 ghost use Rattle.bundle_json_document.specs.Writing.{AppendsFront, AppendsOrFails};
 
 use crate::document::Document;
@@ -30,16 +30,16 @@ pub fn answer<W: Output, E: Output>(
     ensures status { (result ≡ 0) ⊎ (result ≡ 1) ⊎ (result ≡ 3) }
     ensures written { result ≡ 0 →
         (text : List ℕ)
-        × IsAnswer (may_give hook) (may_fail_hook hook) document text
+        × IsDocumentAnswer (may_give hook) (may_fail_hook hook) document text
         × Appends (W.contents output.old) (W.contents output.new) (text ++ codes "\n") }
     ensures fails { result ≡ 3 → W.may_fail_write output.old }
     ensures cut_off { result ≡ 3 →
         (text : List ℕ)
-        × IsAnswer (may_give hook) (may_fail_hook hook) document text
+        × IsDocumentAnswer (may_give hook) (may_fail_hook hook) document text
         × AppendsFront (W.contents output.old) (W.contents output.new) (text ++ codes "\n") }
     ensures refused { result ≡ 1 →
         (refusal : Error)
-        × IsRefusal (may_give hook) (may_fail_hook hook) document refusal
+        × IsDocumentRefusal (may_give hook) (may_fail_hook hook) document refusal
         × AppendsOrFails (E.may_fail_write errors.old) (E.contents errors.old)
         (E.contents errors.new) (line_in refusal) }
     ensures no_output { result ≡ 1 → output.new ≡ output.old }
@@ -85,8 +85,8 @@ fn line_of(alloc: Global, refusal: &Error) -> Result<String, AllocError>
 // The text of the bundles that a document asks for.
 fn answer_text(alloc: Global, document: Document, hook: Box<dyn Hook>) -> Result<String, Error>
     ensures made { IfOk result (λ text.
-        IsAnswer (may_give hook) (may_fail_hook hook) document (string_bytes text)) }
-    ensures refused { IfErr result (IsRefusal (may_give hook) (may_fail_hook hook) document) }
+        IsDocumentAnswer (may_give hook) (may_fail_hook hook) document (string_bytes text)) }
+    ensures refused { IfErr result (IsDocumentRefusal (may_give hook) (may_fail_hook hook) document) }
 {
     let Document {
         config,

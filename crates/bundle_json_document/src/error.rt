@@ -1,7 +1,7 @@
 //! Why a document could not be read.
 
 use bundle_json_form::FormError;
-use bundle_tree_build::BuildError;
+use bundle_tree_parse::BuildError;
 use std::alloc::{AllocError, AllocFailed};
 
 /// Why a document could not be read.

@@ -3,16 +3,16 @@
 ghost use Rattle.std.specs.Prelude.{◌≡◌, IfErr, IfOk};
 ghost use Rattle.serde_json.specs.Data.{object};
 ghost use Rattle.bundle_json_form.specs.Plain.{seen};
-ghost use Rattle.bundle_json_document.specs.Document.{no_notes, AreLists, AreProperties, IsEntry, IsList, IsMap, IsModule};
+ghost use Rattle.bundle_json_document.specs.Document.{no_document_notes, AreLists, AreProperties, IsEntryPair, IsArrayOf, IsMap, IsModuleForm};
 ghost use Rattle.bundle_json_document.specs.Error.{NoneIs, RefusesFor};
-ghost use Rattle.bundle_json_document.specs.Seen.{found, last_members};
+ghost use Rattle.bundle_json_document.specs.Seen.{value_found, last_members};
 
 use crate::error::DocumentError;
 use crate::values::{Members, items_in, members_in, text_in};
 use bundle_json_form::{read_module, read_properties};
 use bundle_tree_ast::{ExportMetadata, KeyValueProp, Module};
 use bundle_tree_names::file_name::FileName;
-use bundle_tree_restore::{build_module, build_properties};
+use bundle_tree_parse::{build_module, build_properties};
 use json::Value;
 use std::alloc::Global;
 use std::collections::BTreeMap;
@@ -25,9 +25,9 @@ pub(crate) fn entries(
     alloc: Global,
     value: &Value<'_>,
 ) -> Result<Vec<(String, FileName)>, DocumentError>
-    ensures ok { IfOk result (λ entries. IsList IsEntry entries.items (seen value.now)) }
+    ensures ok { IfOk result (λ entries. IsArrayOf IsEntryPair entries.items (seen value.now)) }
     ensures refused { IfErr result
-        (RefusesFor (NoneIs (λ entries. IsList IsEntry entries (seen value.now)))) }
+        (RefusesFor (NoneIs (λ entries. IsArrayOf IsEntryPair entries (seen value.now)))) }
 {
     let items = items_in(value)?;
     let mut entries = Vec::new(alloc);
@@ -40,8 +40,8 @@ pub(crate) fn entries(
 
 // An entry: a pair of its name and its file.
 fn entry(alloc: Global, value: &Value<'_>) -> Result<(String, FileName), DocumentError>
-    ensures ok { IfOk result (IsEntry (seen value.now)) }
-    ensures refused { IfErr result (RefusesFor (NoneIs (IsEntry (seen value.now)))) }
+    ensures ok { IfOk result (IsEntryPair (seen value.now)) }
+    ensures refused { IfErr result (RefusesFor (NoneIs (IsEntryPair (seen value.now)))) }
 {
     let [name, file] = items_in(value)? else {
         return Err(DocumentError::Form);
@@ -58,10 +58,10 @@ pub(crate) fn files<'v, 'a>(
     value: &'v Value<'a>,
     notes: &'a ExportMetadata,
 ) -> Result<BTreeMap<String, Module>, DocumentError>
-    requires { notes.now ≡ no_notes }
-    ensures ok { IfOk result (λ files. IsMap IsModule files.entries (seen value.now)) }
+    requires { notes.now ≡ no_document_notes }
+    ensures ok { IfOk result (λ files. IsMap IsModuleForm files.entries (seen value.now)) }
     ensures refused { IfErr result
-        (RefusesFor (NoneIs (λ files. IsMap IsModule files (seen value.now)))) }
+        (RefusesFor (NoneIs (λ files. IsMap IsModuleForm files (seen value.now)))) }
 {
     let members = members_in(alloc, value)?;
     files_in(alloc, &members, notes)
@@ -73,11 +73,11 @@ fn files_in<'v, 'a>(
     members: &Members<'v, 'a>,
     notes: &'a ExportMetadata,
 ) -> Result<BTreeMap<String, Module>, DocumentError>
-    requires { notes.now ≡ no_notes }
+    requires { notes.now ≡ no_document_notes }
     ensures ok { IfOk result (λ files.
-        IsMap IsModule files.entries (object (last_members members.now.entries))) }
+        IsMap IsModuleForm files.entries (object (last_members members.now.entries))) }
     ensures refused { IfErr result (RefusesFor (NoneIs (λ files.
-        IsMap IsModule files (object (last_members members.now.entries))))) }
+        IsMap IsModuleForm files (object (last_members members.now.entries))))) }
 {
     let mut files = BTreeMap::new(alloc);
     for (name, value) in members.iter() {
@@ -94,9 +94,9 @@ fn module_in<'v, 'a>(
     value: &'v Value<'a>,
     notes: &'a ExportMetadata,
 ) -> Result<Module, DocumentError>
-    requires { notes.now ≡ no_notes }
-    ensures ok { IfOk result (IsModule (seen value.now)) }
-    ensures refused { IfErr result (RefusesFor (NoneIs (IsModule (seen value.now)))) }
+    requires { notes.now ≡ no_document_notes }
+    ensures ok { IfOk result (IsModuleForm (seen value.now)) }
+    ensures refused { IfErr result (RefusesFor (NoneIs (IsModuleForm (seen value.now)))) }
 {
     let pieces = read_module(alloc, value, notes)?;
     let made = build_module(alloc, pieces.as_slice())?;
@@ -110,9 +110,9 @@ pub(crate) fn lists<'v, 'a>(
     value: Option<&'v Value<'a>>,
     notes: &'a ExportMetadata,
 ) -> Result<Lists, DocumentError>
-    requires { notes.now ≡ no_notes }
-    ensures ok { IfOk result (λ lists. AreLists (found value.entry) lists.entries) }
-    ensures refused { IfErr result (RefusesFor (NoneIs (AreLists (found value.entry)))) }
+    requires { notes.now ≡ no_document_notes }
+    ensures ok { IfOk result (λ lists. AreLists (value_found value.entry) lists.entries) }
+    ensures refused { IfErr result (RefusesFor (NoneIs (AreLists (value_found value.entry)))) }
 {
     match value {
         None => Ok(BTreeMap::new(alloc)),
@@ -129,7 +129,7 @@ fn lists_in<'v, 'a>(
     members: &Members<'v, 'a>,
     notes: &'a ExportMetadata,
 ) -> Result<Lists, DocumentError>
-    requires { notes.now ≡ no_notes }
+    requires { notes.now ≡ no_document_notes }
     ensures ok { IfOk result (λ lists.
         IsMap AreProperties lists.entries (object (last_members members.now.entries))) }
     ensures refused { IfErr result (RefusesFor (NoneIs (λ lists.
@@ -150,7 +150,7 @@ fn properties_in<'v, 'a>(
     value: &'v Value<'a>,
     notes: &'a ExportMetadata,
 ) -> Result<Vec<KeyValueProp>, DocumentError>
-    requires { notes.now ≡ no_notes }
+    requires { notes.now ≡ no_document_notes }
     ensures ok { IfOk result (AreProperties (seen value.now)) }
     ensures refused { IfErr result (RefusesFor (NoneIs (AreProperties (seen value.now)))) }
 {

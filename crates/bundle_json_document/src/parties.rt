@@ -4,7 +4,7 @@ ghost use Rattle.std.specs.Prelude.{◌≡◌, string_bytes, IfOk};
 ghost use Rattle.std.specs.List.{flat_map};
 ghost use Rattle.bundle_tree_names.specs.FileName.{name_of, real};
 ghost use Rattle.bundle_tree_listed.specs.Tree.{key_value_prop_items, module_items};
-ghost use Rattle.bundle_json_document.specs.Parties.{lists_of, script_path};
+ghost use Rattle.bundle_json_document.specs.Parties.{hook_lists, script_path};
 
 use bundle_tree::hook::{Hook, HookError, ModuleRecord};
 use bundle_tree::load::{Load, LoadError, ModuleData};
@@ -56,14 +56,17 @@ impl Load for DocumentLoader {
 }
 
 // A copy of a module, under the name of its file.
-fn named_copy(alloc: Global, name: &String, module: &Module) -> Result<ModuleData, AllocError>
+fn named_copy(alloc: Global, name: &String, tree: &Module) -> Result<ModuleData, AllocError>
     ensures file { IfOk result (λ made. name_of made.file_name ≡ real (string_bytes name.now)) }
     ensures tree { IfOk result (λ made.
-        module_items 0 made.«module» ≡ module_items 0 «module».now) }
+        module_items 0 made.module ≡ module_items 0 tree.now) }
 {
     let file_name = FileName::Real(name.clone()?);
-    let module = module.try_clone(alloc)?;
-    Ok(ModuleData { file_name, module })
+    let tree = tree.try_clone(alloc)?;
+    Ok(ModuleData {
+        module: tree,
+        file_name,
+    })
 }
 
 /// Resolves `./r` to `r`, with `.js` behind it where it does not end so.
@@ -72,11 +75,11 @@ pub(crate) struct DocumentResolver;
 
 impl Resolve for DocumentResolver {
     ghost use Rattle.bundle_tree_names.specs.FileName.{Name};
-    ghost use Rattle.bundle_json_document.specs.Parties.{LeadsTo};
+    ghost use Rattle.bundle_json_document.specs.Parties.{SpecifierLeads};
 
-    ghost may_resolve = { λ _ _. LeadsTo };
+    ghost may_resolve = { λ _ _. SpecifierLeads };
 
-    ghost may_fail_resolve = { λ _ _ specifier. (file : Name) → ¬ LeadsTo specifier file };
+    ghost may_fail_resolve = { λ _ _ specifier. (file : Name) → ¬ SpecifierLeads specifier file };
 
     fn resolve(
         &self,
@@ -117,7 +120,7 @@ pub struct MetaHook {
 impl MetaHook {
     /// A hook that gives these lists, each for the real file of its name.
     pub fn new(lists: BTreeMap<String, Vec<KeyValueProp>>) -> MetaHook
-        ensures { lists_of result ≡ lists.entries }
+        ensures { hook_lists result ≡ lists.entries }
     {
         MetaHook { lists }
     }
@@ -134,9 +137,9 @@ impl Hook for MetaHook {
     fn get_import_meta_props(
         &self,
         alloc: Global,
-        module: &ModuleRecord,
+        module_record: &ModuleRecord,
     ) -> Result<Vec<KeyValueProp>, HookError> {
-        let FileName::Real(name) = &module.file_name else {
+        let FileName::Real(name) = &module_record.file_name else {
             return Ok(Vec::new(alloc));
         };
         let Some(properties) = self.lists.get(name.as_str()) else {

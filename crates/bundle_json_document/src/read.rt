@@ -5,7 +5,7 @@ ghost use Rattle.std.specs.Io.KnownBytes.{Consumes, IsAtEnd};
 ghost use Rattle.bundle_json_form.specs.Plain.{seen};
 ghost use Rattle.bundle_json_document.specs.Document.{HasNoDocument, IsDocumentText, IsNoDocumentText, IsRefusalLine, IsValueOf};
 ghost use Rattle.bundle_json_document.specs.Error.{NoneIs, RefusesFor};
-ghost use Rattle.bundle_json_document.specs.Parties.{lists_of};
+ghost use Rattle.bundle_json_document.specs.Parties.{hook_lists};
 ghost use Rattle.bundle_json_document.specs.Writing.{AppendsOrFails};
 
 use crate::document::Document;
@@ -36,7 +36,7 @@ pub fn read_document<R: Input, E: Output>(
     ensures document { IfOk result (λ made.
         (text : List ℕ)
         × Consumes (R.remaining input.old) (R.remaining input.new) text
-        × IsDocumentText text made.0 (lists_of made.1)) }
+        × IsDocumentText text made.0 (hook_lists made.1)) }
     ensures whole { OnOk result (IsAtEnd (R.remaining input.new)) }
     ensures no_error { OnOk result (errors.new ≡ errors.old) }
     ensures refused { IfErr result (λ status.

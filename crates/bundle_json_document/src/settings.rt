@@ -3,9 +3,9 @@
 ghost use Rattle.std.specs.Prelude.{map, IfErr, IfOk};
 ghost use Rattle.std.specs.List.{AllZip};
 ghost use Rattle.bundle_json_form.specs.Plain.{seen};
-ghost use Rattle.bundle_json_document.specs.Document.{AreSettings, AreTexts, IsLimit, IsModuleType, IsText, IsTruth};
+ghost use Rattle.bundle_json_document.specs.Document.{AreSettings, IsTextList, IsLimit, IsModuleType, IsText, IsTruth};
 ghost use Rattle.bundle_json_document.specs.Error.{NoneIs, RefusesFor};
-ghost use Rattle.bundle_json_document.specs.Seen.{found};
+ghost use Rattle.bundle_json_document.specs.Seen.{value_found};
 
 use crate::error::DocumentError;
 use crate::values::{items_in, text_in, whole_number};
@@ -17,8 +17,8 @@ use std::alloc::Global;
 /// The settings in an object, each of which may be left out, and so may the object. Refused where one is
 /// of another form, and for memory.
 pub(crate) fn settings(alloc: Global, value: Option<&Value<'_>>) -> Result<Config, DocumentError>
-    ensures ok { IfOk result (AreSettings (found value.entry)) }
-    ensures refused { IfErr result (RefusesFor (NoneIs (AreSettings (found value.entry)))) }
+    ensures ok { IfOk result (AreSettings (value_found value.entry)) }
+    ensures refused { IfErr result (RefusesFor (NoneIs (AreSettings (value_found value.entry)))) }
 {
     let Some(value) = value else {
         return Ok(Config::new(alloc));
@@ -37,8 +37,8 @@ pub(crate) fn settings(alloc: Global, value: Option<&Value<'_>>) -> Result<Confi
 
 // A truth value, or false.
 fn truth(value: Option<&Value<'_>>) -> Result<bool, DocumentError>
-    ensures ok { IfOk result (IsTruth (found value.entry)) }
-    ensures refused { IfErr result (λ _. NoneIs (IsTruth (found value.entry))) }
+    ensures ok { IfOk result (IsTruth (value_found value.entry)) }
+    ensures refused { IfErr result (λ _. NoneIs (IsTruth (value_found value.entry))) }
 {
     match value {
         None => Ok(false),
@@ -48,8 +48,8 @@ fn truth(value: Option<&Value<'_>>) -> Result<bool, DocumentError>
 
 // A list of texts, or an empty one.
 fn texts(alloc: Global, value: Option<&Value<'_>>) -> Result<Vec<String>, DocumentError>
-    ensures ok { IfOk result (λ texts. AreTexts (found value.entry) texts.items) }
-    ensures refused { IfErr result (RefusesFor (NoneIs (AreTexts (found value.entry)))) }
+    ensures ok { IfOk result (λ texts. IsTextList (value_found value.entry) texts.items) }
+    ensures refused { IfErr result (RefusesFor (NoneIs (IsTextList (value_found value.entry)))) }
 {
     match value {
         None => Ok(Vec::new(alloc)),
@@ -73,8 +73,8 @@ fn texts_in(alloc: Global, values: &[Value<'_>]) -> Result<Vec<String>, Document
 
 // What a bundle is written as, an ES module where nothing is said.
 fn module_type(value: Option<&Value<'_>>) -> Result<ModuleType, DocumentError>
-    ensures ok { IfOk result (IsModuleType (found value.entry)) }
-    ensures refused { IfErr result (λ _. NoneIs (IsModuleType (found value.entry))) }
+    ensures ok { IfOk result (IsModuleType (value_found value.entry)) }
+    ensures refused { IfErr result (λ _. NoneIs (IsModuleType (value_found value.entry))) }
 {
     match value {
         None => Ok(ModuleType::Es),
@@ -89,8 +89,8 @@ fn module_type(value: Option<&Value<'_>>) -> Result<ModuleType, DocumentError>
 
 // How many modules a bundle may have, as many as there can be where nothing is said.
 fn limit(value: Option<&Value<'_>>) -> Result<u32, DocumentError>
-    ensures ok { IfOk result (IsLimit (found value.entry)) }
-    ensures refused { IfErr result (λ _. NoneIs (IsLimit (found value.entry))) }
+    ensures ok { IfOk result (IsLimit (value_found value.entry)) }
+    ensures refused { IfErr result (λ _. NoneIs (IsLimit (value_found value.entry))) }
 {
     let Some(value) = value else {
         return Ok(u32::MAX);

@@ -12,11 +12,11 @@ ghost use Rattle.serde_json.specs.Data.{object, Data, Members};
 ghost use Rattle.serde_json.specs.Find.{get_member};
 ghost use Rattle.bundle_json_form.specs.Form.{top, IsForm};
 ghost use Rattle.bundle_json_form.specs.Plain.{seen};
-ghost use Rattle.bundle_tree_piece.specs.Item.{Close, Open, item_of, Module as module_head};
+ghost use Rattle.bundle_syntax.specs.Item.{Close, Open, item_of, Module as module_head};
 ghost use Rattle.bundle_tree_listed.specs.Tree.{module_item_items};
-ghost use Rattle.bundle_json_document.specs.Document.{no_notes, AreLists, AreSettings, IsDocument, IsMap, IsModule};
+ghost use Rattle.bundle_json_document.specs.Document.{no_document_notes, AreLists, AreSettings, IsDocument, IsMap, IsModuleForm};
 ghost use Rattle.bundle_json_document.specs.Error.{NoneIs, RefusesFor};
-ghost use Rattle.bundle_json_document.specs.Stream.{AreItems, AreListsIn, AreParts, AreSettingsIn, IsKept, IsNext, KeepsMember, KeepsModuleMember};
+ghost use Rattle.bundle_json_document.specs.Stream.{AreItems, AreListsIn, AreDocumentParts, AreSettingsIn, IsMemberKept, IsNextValue, KeepsMember, KeepsModuleMember};
 
 use crate::document::Document;
 use crate::error::DocumentError;
@@ -24,25 +24,25 @@ use crate::forms::{Lists, entries, lists};
 use crate::settings::settings;
 use crate::values::{is_text, is_whole};
 use bundle_json_form::read_module;
+use bundle_syntax::{Node, Piece};
 use bundle_tree_ast::{ExportMetadata, Module};
 use bundle_tree_names::config::Config;
 use bundle_tree_names::file_name::FileName;
-use bundle_tree_piece::{Node, Piece};
-use bundle_tree_restore::build_module;
+use bundle_tree_parse::build_module;
 use json::{Reader, Token, Value};
 use std::alloc::Global;
 use std::collections::BTreeMap;
 
 /// What was read of a document so far: nothing under a key that did not come yet.
 #[derive(Drop)]
-pub(crate) struct Parts {
+pub(crate) struct DocumentParts {
     config: Option<Config>,
     entries: Option<Vec<(String, FileName)>>,
     files: Option<BTreeMap<String, Module>>,
     lists: Option<Lists>,
 }
 
-impl Parts {
+impl DocumentParts {
     // Reads the value of the member under `key`, and keeps what it stands for.
     fn read_member<'a>(
         &mut self,
@@ -51,7 +51,7 @@ impl Parts {
         key: &str,
         notes: &'a ExportMetadata,
     ) -> Result<(), DocumentError>
-        requires { notes.now ≡ no_notes }
+        requires { notes.now ≡ no_document_notes }
         ensures ok { OnOk result (KeepsMember reader.old reader.new key.now self.old self.new) }
         ensures shorter { OnOk result (length reader.new < length reader.old) }
     {
@@ -95,7 +95,7 @@ impl Parts {
         reader: &mut Reader<'a>,
         notes: &'a ExportMetadata,
     ) -> Result<(), DocumentError>
-        requires { notes.now ≡ no_notes }
+        requires { notes.now ≡ no_document_notes }
         ensures ok { OnOk result
             (KeepsMember reader.old reader.new (codes "files") self.old self.new) }
         ensures shorter { OnOk result (length reader.new < length reader.old) }
@@ -111,7 +111,7 @@ impl Parts {
         reader: &mut Reader<'a>,
         notes: &'a ExportMetadata,
     ) -> Result<(), DocumentError>
-        requires { notes.now ≡ no_notes }
+        requires { notes.now ≡ no_document_notes }
         ensures ok { OnOk result
             (KeepsMember reader.old reader.new (codes "meta") self.old self.new) }
         ensures shorter { OnOk result (length reader.new < length reader.old) }
@@ -127,11 +127,11 @@ impl Parts {
     pub(crate) fn document(self, alloc: Global) -> Result<(Document, Lists), DocumentError>
         ensures { IfOk result (λ made.
             (ms : Members) →
-            AreParts ms self →
+            AreDocumentParts ms self →
             IsDocument (object ms) made.0
             × AreLists (get_member (codes "meta") ms) made.1.entries) }
     {
-        let Parts {
+        let DocumentParts {
             config,
             entries,
             files,
@@ -153,7 +153,7 @@ impl Parts {
 // The settings that were read, or those to start from.
 fn config_or_default(alloc: Global, config: Option<Config>) -> Result<Config, DocumentError>
     ensures { IfOk result (λ it.
-        (d : Option Data) → IsKept AreSettingsIn d config → AreSettings d it) }
+        (d : Option Data) → IsMemberKept AreSettingsIn d config → AreSettings d it) }
 {
     match config {
         Some(config) => Ok(config),
@@ -163,7 +163,7 @@ fn config_or_default(alloc: Global, config: Option<Config>) -> Result<Config, Do
 
 // The lists of properties that were read, or none.
 fn lists_or_none(alloc: Global, lists: Option<Lists>) -> Lists
-    ensures { (d : Option Data) → IsKept AreListsIn d lists → AreLists d result.entries }
+    ensures { (d : Option Data) → IsMemberKept AreListsIn d lists → AreLists d result.entries }
 {
     match lists {
         Some(lists) => lists,
@@ -187,13 +187,13 @@ pub(crate) fn read_parts<'a>(
     alloc: Global,
     reader: &mut Reader<'a>,
     notes: &'a ExportMetadata,
-) -> Result<Parts, DocumentError>
-    requires { notes.now ≡ no_notes }
-    ensures { IfOk result (λ parts. (ms : Members) × IsNext 127 reader.old reader.new (object ms)
-        × AreParts ms parts) }
+) -> Result<DocumentParts, DocumentError>
+    requires { notes.now ≡ no_document_notes }
+    ensures { IfOk result (λ parts. (ms : Members) × IsNextValue 127 reader.old reader.new (object ms)
+        × AreDocumentParts ms parts) }
 {
     open_object(reader)?;
-    let mut parts = Parts {
+    let mut parts = DocumentParts {
         config: None,
         entries: None,
         files: None,
@@ -211,9 +211,9 @@ pub(crate) fn read_value<'a>(
     reader: &mut Reader<'a>,
     depth: usize,
 ) -> Result<Value<'a>, DocumentError>
-    ensures ok { IfOk result (λ value. IsNext depth reader.old reader.new (seen value)) }
+    ensures ok { IfOk result (λ value. IsNextValue depth reader.old reader.new (seen value)) }
     ensures refused { IfErr result
-        (RefusesFor ((rest : List SpecToken) → NoneIs (IsNext depth reader.old rest))) }
+        (RefusesFor ((rest : List SpecToken) → NoneIs (IsNextValue depth reader.old rest))) }
     ensures shorter { OnOk result (length reader.new < length reader.old) }
 {
     let value = match Value::read(alloc, reader, depth) {
@@ -234,9 +234,9 @@ fn files<'a>(
     reader: &mut Reader<'a>,
     notes: &'a ExportMetadata,
 ) -> Result<BTreeMap<String, Module>, DocumentError>
-    requires { notes.now ≡ no_notes }
-    ensures ok { IfOk result (λ files. (d : Data) × IsNext 126 reader.old reader.new d
-        × IsMap IsModule files.entries d) }
+    requires { notes.now ≡ no_document_notes }
+    ensures ok { IfOk result (λ files. (d : Data) × IsNextValue 126 reader.old reader.new d
+        × IsMap IsModuleForm files.entries d) }
     ensures shorter { OnOk result (length reader.new < length reader.old) }
 {
     open_object(reader)?;
@@ -265,7 +265,7 @@ impl ModuleParts {
         key: &str,
         notes: &'a ExportMetadata,
     ) -> Result<(), DocumentError>
-        requires { notes.now ≡ no_notes }
+        requires { notes.now ≡ no_document_notes }
         ensures ok { OnOk result
             (KeepsModuleMember reader.old reader.new key.now self.old self.new) }
         ensures shorter { OnOk result (length reader.new < length reader.old) }
@@ -297,7 +297,7 @@ impl ModuleParts {
         reader: &mut Reader<'a>,
         notes: &'a ExportMetadata,
     ) -> Result<(), DocumentError>
-        requires { notes.now ≡ no_notes }
+        requires { notes.now ≡ no_document_notes }
         ensures ok { OnOk result
             (KeepsModuleMember reader.old reader.new (codes "body") self.old self.new) }
         ensures shorter { OnOk result (length reader.new < length reader.old) }
@@ -314,9 +314,9 @@ fn module<'a>(
     reader: &mut Reader<'a>,
     notes: &'a ExportMetadata,
 ) -> Result<Module, DocumentError>
-    requires { notes.now ≡ no_notes }
-    ensures ok { IfOk result (λ it. (d : Data) × IsNext 125 reader.old reader.new d
-        × IsModule d it) }
+    requires { notes.now ≡ no_document_notes }
+    ensures ok { IfOk result (λ it. (d : Data) × IsNextValue 125 reader.old reader.new d
+        × IsModuleForm d it) }
     ensures shorter { OnOk result (length reader.new < length reader.old) }
 {
     open_object(reader)?;
@@ -342,8 +342,8 @@ fn items<'a>(
     reader: &mut Reader<'a>,
     notes: &'a ExportMetadata,
 ) -> Result<Module, DocumentError>
-    requires { notes.now ≡ no_notes }
-    ensures ok { IfOk result (λ items. (d : Data) × IsNext 124 reader.old reader.new d
+    requires { notes.now ≡ no_document_notes }
+    ensures ok { IfOk result (λ items. (d : Data) × IsNextValue 124 reader.old reader.new d
         × AreItems d items.body.items) }
     ensures shorter { OnOk result (length reader.new < length reader.old) }
 {
@@ -363,9 +363,9 @@ fn item<'a>(
     reader: &mut Reader<'a>,
     notes: &'a ExportMetadata,
 ) -> Result<Module, DocumentError>
-    requires { notes.now ≡ no_notes }
-    ensures ok { IfOk result (λ items. (d : Data) × IsNext 123 reader.old reader.new d
-        × IsForm no_notes top d (flat_map (module_item_items 0) items.body.items)) }
+    requires { notes.now ≡ no_document_notes }
+    ensures ok { IfOk result (λ items. (d : Data) × IsNextValue 123 reader.old reader.new d
+        × IsForm no_document_notes top d (flat_map (module_item_items 0) items.body.items)) }
     ensures shorter { OnOk result (length reader.new < length reader.old) }
 {
     let value = read_value(alloc, reader, 123)?;

@@ -3,7 +3,7 @@
 ghost use Rattle.std.specs.Prelude.{◌≡◌, string_bytes, IfOk, IfErr, OnOk};
 ghost use Rattle.bundle_tree_listed.specs.Tree.{module_item_items, module_items};
 ghost use Rattle.bundle_json_form.specs.Texts.{AppendsForm};
-ghost use Rattle.bundle_json_document.specs.Bundles.{name_in, AppendsObject, IsTextOf};
+ghost use Rattle.bundle_json_document.specs.Bundles.{bundle_name, AppendsBundle, IsBundlesText};
 
 use bundle_json_form::{push_comma, push_quoted, push_tree};
 use bundle_tree_ast::{Module, ModuleItem};
@@ -17,7 +17,7 @@ use std::slice;
 /// as a text, its kind, its module and its name. Refused only for memory. Each bundle is to be of the
 /// kind `Named`, and each is written as one.
 pub fn bundles_text(alloc: Global, bundles: &[Bundle]) -> Result<String, Error>
-    ensures text { IfOk result (λ text. IsTextOf bundles.now (string_bytes text)) }
+    ensures text { IfOk result (λ text. IsBundlesText bundles.now (string_bytes text)) }
     ensures refused { IfErr result (λ refusal. refusal ≡ Error.OutOfMemory) }
 {
     let mut text = String::new(alloc);
@@ -35,7 +35,7 @@ pub fn bundles_text(alloc: Global, bundles: &[Bundle]) -> Result<String, Error>
 // Puts the object of a bundle behind a text.
 fn push_object(alloc: Global, text: &mut String, bundle: &Bundle) -> Result<(), AllocError>
     ensures { OnOk result
-        (AppendsObject bundle.now (string_bytes text.old) (string_bytes text.new)) }
+        (AppendsBundle bundle.now (string_bytes text.old) (string_bytes text.new)) }
 {
     let id = format!(in alloc; "{}", bundle.id)?;
     text.push_str("{\"id\":")?;
@@ -49,13 +49,13 @@ fn push_object(alloc: Global, text: &mut String, bundle: &Bundle) -> Result<(), 
 }
 
 // Puts the form of a module behind a text, item by item, so that one item is listed at a time.
-fn push_module(alloc: Global, text: &mut String, module: &Module) -> Result<(), AllocError>
-    ensures { OnOk result (AppendsForm (module_items 0 «module».now) (string_bytes text.old)
+fn push_module(alloc: Global, text: &mut String, tree: &Module) -> Result<(), AllocError>
+    ensures { OnOk result (AppendsForm (module_items 0 tree.now) (string_bytes text.old)
         (string_bytes text.new)) }
 {
     text.push_str("{\"body\":[")?;
     let mut is_later = false;
-    for item in &module.body {
+    for item in &tree.body {
         push_comma(text, is_later)?;
         push_item(alloc, text, item)?;
         is_later = true;
@@ -75,7 +75,7 @@ fn push_item(alloc: Global, text: &mut String, item: &ModuleItem) -> Result<(), 
 
 // The name of a bundle of this kind.
 fn name_of(kind: &BundleKind) -> &str
-    ensures { result.now ≡ name_in kind.now }
+    ensures { result.now ≡ bundle_name kind.now }
 {
     match kind {
         BundleKind::Named { name } | BundleKind::Lib { name } => name.as_str(),

@@ -1,18 +1,18 @@
 -- The text that is put in for a tree, piece by piece.
 use Rattle.std.proofs.Common.{◌≡◌, ℕ, ◌==◌, ◌+◌, ◌<◌, ◌≤◌, List, [], ◌∷◌, ◌++◌, Bool, true, false, Some, None, map, length, get_or, refl, sym, ap, ◌∙◌, subst, append_assoc, append-nil, arith}
 use Rattle.std.proofs.lemmas.List.{drop_more, drop_all}
-use Rattle.bundle_tree_piece.specs.declared.piece.Piece.{Piece}
+use Rattle.bundle_syntax.specs.declared.piece.Piece.{Piece}
 use Rattle.json.specs.Print.{quoted}
 use Rattle.serde_json.specs.Data.{Items, item}
 use Rattle.serde_json.specs.Written.{compact_text, items_text, members_text, comma_if}
-use Rattle.bundle_tree_piece.specs.Item as h
-use Rattle.bundle_tree_piece.specs.Item.{Item, Head, item_of}
+use Rattle.bundle_syntax.specs.Item as h
+use Rattle.bundle_syntax.specs.Item.{Item, Head, item_of}
 use Rattle.bundle_json_form.specs.declared.layout.Shape.TheVariants as s
-use Rattle.bundle_json_form.specs.Form.{Tree, ident, hole, node, tree_items, fields, fields_items, written, IsLaidOut}
+use Rattle.bundle_json_form.specs.Form.{Tree, ident, hole, node, tree_items, node_fields, fields_items, written, IsLaidOut}
 use Rattle.bundle_json_form.specs.Plan as p
-use Rattle.bundle_json_form.specs.Plan.{Content, nodes, plan}
-use Rattle.bundle_json_form.specs.Texts.{from, AppendsForm, AppendsFirst, AppendsContent, AppendsField, AppendsObject, Child, children_items, AreLaidOut, HasInside, written_in, datum, filled, field_of_first, IsAfterFirst, IsFirstIn, HasNoneIn}
-use Rattle.bundle_json_form.proofs.Planned.{children, children-items, children-laid, filled-plan}
+use Rattle.bundle_json_form.specs.Plan.{plan}
+use Rattle.bundle_json_form.specs.Texts.{from, AppendsForm, AppendsFirst, AppendsContent, AppendsField, AppendsObject, NodeChild, children_items, AreLaidOut, HasInside, written_in, datum, filled, field_of_first, IsAfterFirst, IsFirstNode, HasNoneIn}
+use Rattle.bundle_json_form.proofs.Places.{children, children-items, children-laid, filled-plan}
 
 -- the element at a place
 pub from_next : (pieces : List Piece) (at : ℕ) (it : Piece) → at < length pieces
@@ -45,7 +45,7 @@ node_first items inside field head old new is puts number (node other inner) res
     let has : HasInside inside (children inner) rest = record {
       listed = within ∙ append_assoc (fields_items inner) (h.Close ∷ []) rest
           ∙ ap (λ them. them ++ h.Close ∷ rest) (sym (children-items inner));
-      laid = children-laid (fields other) inner laid;
+      laid = children-laid (node_fields other) inner laid;
     } in
     subst (λ it. AppendsObject (plan it) inside old new) same puts (children inner) rest has
     ∙ ap (λ d. old ++ compact_text d) (filled-plan other inner laid)
@@ -54,7 +54,7 @@ node_first items inside field head old new is puts number (node other inner) res
 
 -- what has been put in, and what is still to be put in, is the whole
 pub record AreMembers (inside : List Item) (old text : List ℕ) (whole left : List p.Member) (later : Bool) : Type 0 where
-  pub so_far : (them : List Child) (rest : List Item) → HasInside inside them rest
+  pub so_far : (them : List NodeChild) (rest : List Item) → HasInside inside them rest
       → text ++ members_text later (filled them left) ≡ old ++ members_text false (filled them whole)
 
 pub one_member : (inside : List Item) (old text named new : List ℕ) (whole left more : List p.Member) (later : Bool) (it : p.Member)
@@ -80,16 +80,16 @@ first_is field hole more = refl
 first_is field (node head inner) more = refl
 
 -- the children that are left, and the first of them
-pub record FirstLeft (field : ℕ) (items : List Item) (them : List Child) (rest : List Item) : Type 0 where
+pub record FirstLeft (field : ℕ) (items : List Item) (them : List NodeChild) (rest : List Item) : Type 0 where
   pub it : Tree
-  pub more : List Child
+  pub more : List NodeChild
   pub is : them ≡ (field, it) ∷ more
   pub listed : items ≡ tree_items field it ++ (children_items more ++ h.Close ∷ rest)
   pub laid : IsLaidOut it
   pub others : AreLaidOut more
 
 -- a field begins where a child is left
-pub first_left : (field : ℕ) (items : List Item) (them : List Child) (rest : List Item)
+pub first_left : (field : ℕ) (items : List Item) (them : List NodeChild) (rest : List Item)
     → Some field ≡ field_of_first items → HasInside items them rest → FirstLeft field items them rest
 first_left field items [] rest some has = cc
   where
@@ -112,7 +112,7 @@ first_left field items (it ∷ more) rest some has =
     some_same e = cc
 
 -- what follows it has those that are left then
-pub next_left : (field : ℕ) (items after : List Item) (them : List Child) (rest : List Item)
+pub next_left : (field : ℕ) (items after : List Item) (them : List NodeChild) (rest : List Item)
     → (first : FirstLeft field items them rest) → IsAfterFirst items after → HasInside after first.more rest
 next_left field items after them rest first follows = record {
   listed = follows field first.it (children_items first.more ++ h.Close ∷ rest) first.listed;
@@ -120,7 +120,7 @@ next_left field items after them rest first follows = record {
 }
 
 -- no child is left where no field begins
-pub none_left : (items : List Item) (them : List Child) (rest : List Item)
+pub none_left : (items : List Item) (them : List NodeChild) (rest : List Item)
     → None ≡ field_of_first items → HasInside items them rest → them ≡ []
 none_left items [] rest none has = refl
 none_left items (it ∷ more) rest none has =
@@ -131,13 +131,13 @@ none_left items (it ∷ more) rest none has =
 
 -- for the children of a node these are left, and with the text so far they give the text of all
 pub record ListLeft (number : ℕ) (items : List Item) (rest : List Item) (whole text : List ℕ) (later : Bool) : Type 0 where
-  pub them : List Child
+  pub them : List NodeChild
   pub has : HasInside items them rest
   pub so_far : text ++ items_text later (written_in number them) ≡ whole
 
 abbrev pub ListsLeft : ℕ → List Item → List ℕ → List Item → List ℕ → Bool → Type 0
 ListsLeft number inside old items text later =
-    (them : List Child) (rest : List Item) → HasInside inside them rest
+    (them : List NodeChild) (rest : List Item) → HasInside inside them rest
     → ListLeft number items rest (old ++ items_text false (written_in number them)) text later
 
 -- a child of another field is passed over
@@ -153,7 +153,7 @@ passed number field inside items after old text later other some follows before 
       so_far = ap (λ ds. text ++ items_text later ds) (sym (skipped first.more first.it) ∙ ap (written_in number) (sym first.is)) ∙ left.so_far;
     }
   where
-    skipped : (more : List Child) (it : Tree) → written_in number ((field, it) ∷ more) ≡ written_in number more
+    skipped : (more : List NodeChild) (it : Tree) → written_in number ((field, it) ∷ more) ≡ written_in number more
     skipped more it = let e : (field == number) ≡ false = grind arith in rw e refl
 
 -- a child of the field is put in
@@ -175,7 +175,7 @@ put_one number field inside items after old text begun new later same some comma
           ∙ left.so_far;
     }
   where
-    taken : (more : List Child) (it : Tree) → written_in number ((field, it) ∷ more) ≡ item (written it) (written_in number more)
+    taken : (more : List NodeChild) (it : Tree) → written_in number ((field, it) ∷ more) ≡ item (written it) (written_in number more)
     taken more it = let e : (field == number) ≡ true = grind arith in rw e refl
 
     regroup : (a b c d : List ℕ) → ((a ++ b) ++ c) ++ d ≡ a ++ (b ++ (c ++ d))
@@ -197,13 +197,13 @@ list_is number inside items old opened text new later begun before none ended th
 
 -- for the children of a node these are left, and none before them is in the field
 pub record FindLeft (number : ℕ) (items : List Item) (rest : List Item) (whole : Items) : Type 0 where
-  pub them : List Child
+  pub them : List NodeChild
   pub has : HasInside items them rest
   pub so_far : written_in number them ≡ whole
 
 abbrev pub FindsLeft : ℕ → List Item → List Item → Type 0
 FindsLeft number inside items =
-    (them : List Child) (rest : List Item) → HasInside inside them rest
+    (them : List NodeChild) (rest : List Item) → HasInside inside them rest
     → FindLeft number items rest (written_in number them)
 
 pub passed_one : (number field : ℕ) (inside items after : List Item)
@@ -218,11 +218,11 @@ passed_one number field inside items after other some follows before them rest h
       so_far = sym (skipped first.more first.it) ∙ ap (written_in number) (sym first.is) ∙ left.so_far;
     }
   where
-    skipped : (more : List Child) (it : Tree) → written_in number ((field, it) ∷ more) ≡ written_in number more
+    skipped : (more : List NodeChild) (it : Tree) → written_in number ((field, it) ∷ more) ≡ written_in number more
     skipped more it = let e : (field == number) ≡ false = grind arith in rw e refl
 
 pub found_one : (number field : ℕ) (inside items : List Item) → field ≡ number → Some field ≡ field_of_first items
-    → FindsLeft number inside items → IsFirstIn number inside items
+    → FindsLeft number inside items → IsFirstNode number inside items
 found_one number field inside items same some before them rest has =
     let left = before them rest has in
     let first = first_left field items left.them rest some left.has in
@@ -235,7 +235,7 @@ found_one number field inside items same some before them rest has =
       first = sym left.so_far ∙ ap (written_in number) first.is ∙ taken first.more first.it;
     }
   where
-    taken : (more : List Child) (it : Tree) → written_in number ((field, it) ∷ more) ≡ item (written it) (written_in number more)
+    taken : (more : List NodeChild) (it : Tree) → written_in number ((field, it) ∷ more) ≡ item (written it) (written_in number more)
     taken more it = let e : (field == number) ≡ true = grind arith in rw e refl
 
 pub found_none : (number : ℕ) (inside items : List Item) → None ≡ field_of_first items

@@ -1,13 +1,13 @@
 -- The fields of a node as the code lists them.
 use Rattle.std.specs.Prelude.{List, [], ◌∷◌}
-use Rattle.bundle_json_form.specs.Form.{Field, one, optional, list, places}
+use Rattle.bundle_json_form.specs.Form.{Field, single_node, optional, list, places}
 use Rattle.bundle_json_form.specs.declared.layout.Entry as r_entry
 use Rattle.bundle_json_form.specs.declared.layout.Entry.TheVariants as e
 use Rattle.bundle_json_form.specs.declared.layout.Layout as r_layout
 use Rattle.bundle_json_form.specs.declared.layout.Layout.TheVariants as l
 
 abbrev pub entry_field : r_entry.Entry → Field
-entry_field (e.One number key) = one number key.now
+entry_field (e.One number key) = single_node number key.now
 entry_field (e.Optional number key) = optional number key.now
 entry_field (e.List number key) = list number key.now
 entry_field (e.Places number key) = places number key.now

@@ -3,6 +3,6 @@ use Rattle.std.specs.Prelude.{ℕ, List, codes}
 use Rattle.bundle_json_form.specs.declared.error.FormError.{FormError}
 use Rattle.bundle_json_form.specs.declared.error.FormError.TheVariants.{Form, OutOfMemory}
 
-abbrev pub shown : FormError → List ℕ
-shown Form = codes "not the form of a tree"
-shown OutOfMemory = codes "out of memory"
+abbrev pub form_error_shown : FormError → List ℕ
+form_error_shown Form = codes "not the form of a tree"
+form_error_shown OutOfMemory = codes "out of memory"

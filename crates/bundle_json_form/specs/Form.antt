@@ -3,15 +3,15 @@ use Rattle.std.specs.Prelude.{◌≡◌, ℕ, ◌==◌, Bool, true, false, if◌
 use Rattle.std.specs.List.{AllByRecursion}
 use Rattle.serde_json.specs.Data.{Data, null, boolean, number as numeric, unsigned, string, array, object, Items, no_items, item, Members, no_members, put}
 use Rattle.serde_json.specs.Find.{get, as_null, as_str, as_bool, as_array}
-use Rattle.bundle_tree_leaf.specs.Text.{unary_text, update_text, binary_text, assign_text, declaration_word, method_word, meta_prop_text}
-use Rattle.bundle_tree_leaf.specs.declared.kind.ExportMetadata.{ExportMetadata}
-use Rattle.bundle_tree_piece.specs.declared.piece.Role.{Role}
-use Rattle.bundle_tree_piece.specs.declared.piece.Role.TheVariants.{Binding, Reference, Word}
-use Rattle.bundle_tree_piece.specs.Item as h
-use Rattle.bundle_tree_piece.specs.Item.{Item, Head}
+use Rattle.bundle_syntax.specs.Text.{unary_text, update_text, binary_text, assign_text, declaration_word, method_word, meta_prop_text}
+use Rattle.bundle_syntax.specs.declared.kind.ExportMetadata.{ExportMetadata}
+use Rattle.bundle_syntax.specs.declared.piece.Role.{Role}
+use Rattle.bundle_syntax.specs.declared.piece.Role.TheVariants.{Binding, Reference, Word}
+use Rattle.bundle_syntax.specs.Item as h
+use Rattle.bundle_syntax.specs.Item.{Item, Head}
 use Rattle.bundle_json_form.specs.declared.layout.Shape.{Shape}
 use Rattle.bundle_json_form.specs.declared.layout.Shape.TheVariants as s
-use Rattle.bundle_json_form.specs.declared.role.Place.{Place}
+use Rattle.bundle_json_form.specs.declared.role.NodePlace.{NodePlace}
 
 -- a field of a node that holds nodes: its number, its key, and what stands under the key
 pub record Field : Type 0 where
@@ -20,8 +20,8 @@ pub record Field : Type 0 where
   pub shape : Shape
 
 -- one node
-abbrev pub one : ℕ → List ℕ → Field
-one number key = record { number = number; key = key; shape = s.One }
+abbrev pub single_node : ℕ → List ℕ → Field
+single_node number key = record { number = number; key = key; shape = s.One }
 
 -- one node, or `null`
 abbrev pub optional : ℕ → List ℕ → Field
@@ -141,96 +141,105 @@ name h.KeyValuePatProp = codes "KeyValuePatProp"
 name h.AssignPatProp = codes "AssignPatProp"
 
 -- the fields of a node that hold nodes; those that are not listed have none
-abbrev pub fields : Head → List Field
+abbrev pub node_fields : Head → List Field
 -- modules (ECMA-262, 16.2)
-fields h.Module = list 0 (codes "body") ∷ []
-fields (h.ImportDecl _) = list 0 (codes "specifiers") ∷ one 1 (codes "src") ∷ []
-fields h.ImportNamedSpecifier = one 0 (codes "local") ∷ optional 1 (codes "imported") ∷ []
-fields h.ImportDefaultSpecifier = one 0 (codes "local") ∷ []
-fields h.ImportStarAsSpecifier = one 0 (codes "local") ∷ []
-fields h.ExportDecl = one 0 (codes "decl") ∷ []
-fields (h.NamedExport _) = list 0 (codes "specifiers") ∷ optional 1 (codes "src") ∷ []
-fields h.ExportNamespaceSpecifier = one 0 (codes "name") ∷ []
-fields h.ExportNamedSpecifier = one 0 (codes "orig") ∷ optional 1 (codes "exported") ∷ []
-fields h.ExportDefaultDecl = one 0 (codes "decl") ∷ []
-fields h.ExportDefaultExpr = one 0 (codes "expr") ∷ []
-fields (h.ExportAll _) = one 0 (codes "src") ∷ []
+node_fields h.Module = list 0 (codes "body") ∷ []
+node_fields (h.ImportDecl _) = list 0 (codes "specifiers") ∷ single_node 1 (codes "src") ∷ []
+node_fields h.ImportNamedSpecifier =
+    single_node 0 (codes "local") ∷ optional 1 (codes "imported") ∷ []
+node_fields h.ImportDefaultSpecifier = single_node 0 (codes "local") ∷ []
+node_fields h.ImportStarAsSpecifier = single_node 0 (codes "local") ∷ []
+node_fields h.ExportDecl = single_node 0 (codes "decl") ∷ []
+node_fields (h.NamedExport _) = list 0 (codes "specifiers") ∷ optional 1 (codes "src") ∷ []
+node_fields h.ExportNamespaceSpecifier = single_node 0 (codes "name") ∷ []
+node_fields h.ExportNamedSpecifier =
+    single_node 0 (codes "orig") ∷ optional 1 (codes "exported") ∷ []
+node_fields h.ExportDefaultDecl = single_node 0 (codes "decl") ∷ []
+node_fields h.ExportDefaultExpr = single_node 0 (codes "expr") ∷ []
+node_fields (h.ExportAll _) = single_node 0 (codes "src") ∷ []
 -- statements (ECMA-262, 14)
-fields h.BlockStmt = list 0 (codes "stmts") ∷ []
-fields h.WithStmt = one 0 (codes "obj") ∷ one 1 (codes "body") ∷ []
-fields h.ReturnStmt = optional 0 (codes "arg") ∷ []
-fields h.LabeledStmt = one 0 (codes "label") ∷ one 1 (codes "body") ∷ []
-fields h.BreakStmt = optional 0 (codes "label") ∷ []
-fields h.ContinueStmt = optional 0 (codes "label") ∷ []
-fields h.IfStmt = one 0 (codes "test") ∷ one 1 (codes "cons") ∷ optional 2 (codes "alt") ∷ []
-fields h.SwitchStmt = one 0 (codes "discriminant") ∷ list 1 (codes "cases") ∷ []
-fields h.SwitchCase = optional 0 (codes "test") ∷ list 1 (codes "cons") ∷ []
-fields h.ThrowStmt = one 0 (codes "arg") ∷ []
-fields h.TryStmt = one 0 (codes "block") ∷ optional 1 (codes "handler") ∷ optional 2 (codes "finalizer") ∷ []
-fields h.CatchClause = optional 0 (codes "param") ∷ one 1 (codes "body") ∷ []
-fields h.WhileStmt = one 0 (codes "test") ∷ one 1 (codes "body") ∷ []
-fields h.DoWhileStmt = one 0 (codes "body") ∷ one 1 (codes "test") ∷ []
-fields h.ForStmt = optional 0 (codes "init") ∷ optional 1 (codes "test") ∷ optional 2 (codes "update") ∷ one 3 (codes "body") ∷ []
-fields h.ForInStmt = one 0 (codes "left") ∷ one 1 (codes "right") ∷ one 2 (codes "body") ∷ []
-fields (h.ForOfStmt _) = one 1 (codes "left") ∷ one 2 (codes "right") ∷ one 3 (codes "body") ∷ []
-fields h.ExprStmt = one 0 (codes "expr") ∷ []
+node_fields h.BlockStmt = list 0 (codes "stmts") ∷ []
+node_fields h.WithStmt = single_node 0 (codes "obj") ∷ single_node 1 (codes "body") ∷ []
+node_fields h.ReturnStmt = optional 0 (codes "arg") ∷ []
+node_fields h.LabeledStmt = single_node 0 (codes "label") ∷ single_node 1 (codes "body") ∷ []
+node_fields h.BreakStmt = optional 0 (codes "label") ∷ []
+node_fields h.ContinueStmt = optional 0 (codes "label") ∷ []
+node_fields h.IfStmt =
+    single_node 0 (codes "test") ∷ single_node 1 (codes "cons") ∷ optional 2 (codes "alt") ∷ []
+node_fields h.SwitchStmt = single_node 0 (codes "discriminant") ∷ list 1 (codes "cases") ∷ []
+node_fields h.SwitchCase = optional 0 (codes "test") ∷ list 1 (codes "cons") ∷ []
+node_fields h.ThrowStmt = single_node 0 (codes "arg") ∷ []
+node_fields h.TryStmt = single_node 0 (codes "block") ∷ optional 1 (codes "handler") ∷ optional 2 (codes "finalizer") ∷ []
+node_fields h.CatchClause = optional 0 (codes "param") ∷ single_node 1 (codes "body") ∷ []
+node_fields h.WhileStmt = single_node 0 (codes "test") ∷ single_node 1 (codes "body") ∷ []
+node_fields h.DoWhileStmt = single_node 0 (codes "body") ∷ single_node 1 (codes "test") ∷ []
+node_fields h.ForStmt = optional 0 (codes "init") ∷ optional 1 (codes "test") ∷ optional 2 (codes "update") ∷ single_node 3 (codes "body") ∷ []
+node_fields h.ForInStmt =
+    single_node 0 (codes "left") ∷ single_node 1 (codes "right") ∷ single_node 2 (codes "body") ∷ []
+node_fields (h.ForOfStmt _) =
+    single_node 1 (codes "left") ∷ single_node 2 (codes "right") ∷ single_node 3 (codes "body") ∷ []
+node_fields h.ExprStmt = single_node 0 (codes "expr") ∷ []
 -- declarations (ECMA-262, 14.3, 15.2 and 15.7)
-fields h.ClassDecl = one 0 (codes "ident") ∷ one 1 (codes "class") ∷ []
-fields h.FnDecl = one 0 (codes "ident") ∷ one 1 (codes "function") ∷ []
-fields (h.VarDecl _ _) = list 1 (codes "decls") ∷ []
-fields h.VarDeclarator = one 0 (codes "name") ∷ optional 1 (codes "init") ∷ []
+node_fields h.ClassDecl = single_node 0 (codes "ident") ∷ single_node 1 (codes "class") ∷ []
+node_fields h.FnDecl = single_node 0 (codes "ident") ∷ single_node 1 (codes "function") ∷ []
+node_fields (h.VarDecl _ _) = list 1 (codes "decls") ∷ []
+node_fields h.VarDeclarator = single_node 0 (codes "name") ∷ optional 1 (codes "init") ∷ []
 -- expressions (ECMA-262, 13)
-fields h.ArrayLit = places 0 (codes "elems") ∷ []
-fields h.ObjectLit = list 0 (codes "props") ∷ []
-fields h.FnExpr = optional 0 (codes "ident") ∷ one 1 (codes "function") ∷ []
-fields (h.UnaryExpr _) = one 1 (codes "arg") ∷ []
-fields (h.UpdateExpr _ _) = one 2 (codes "arg") ∷ []
-fields (h.BinExpr _) = one 1 (codes "left") ∷ one 2 (codes "right") ∷ []
-fields (h.AssignExpr _) = one 1 (codes "left") ∷ one 2 (codes "right") ∷ []
-fields h.MemberExpr = one 0 (codes "obj") ∷ one 1 (codes "prop") ∷ []
-fields h.SuperPropExpr = one 0 (codes "prop") ∷ []
-fields h.CondExpr = one 0 (codes "test") ∷ one 1 (codes "cons") ∷ one 2 (codes "alt") ∷ []
-fields h.CallExpr = one 0 (codes "callee") ∷ list 1 (codes "args") ∷ []
-fields (h.NewExpr true) = one 0 (codes "callee") ∷ list 1 (codes "args") ∷ []
-fields (h.NewExpr false) = one 0 (codes "callee") ∷ optional 1 (codes "args") ∷ []
-fields h.SeqExpr = list 0 (codes "exprs") ∷ []
-fields h.Tpl = list 0 (codes "exprs") ∷ list 1 (codes "quasis") ∷ []
-fields h.TaggedTpl = one 0 (codes "tag") ∷ one 1 (codes "tpl") ∷ []
-fields (h.ArrowExpr _) = list 0 (codes "params") ∷ one 1 (codes "body") ∷ []
-fields h.ClassExpr = optional 0 (codes "ident") ∷ one 1 (codes "class") ∷ []
-fields (h.YieldExpr _) = optional 0 (codes "arg") ∷ []
-fields h.AwaitExpr = one 0 (codes "arg") ∷ []
-fields h.ParenExpr = one 0 (codes "expr") ∷ []
-fields (h.OptChainExpr _) = one 1 (codes "base") ∷ []
-fields h.OptCall = one 0 (codes "callee") ∷ list 1 (codes "args") ∷ []
-fields (h.ExprOrSpread _) = one 1 (codes "expr") ∷ []
+node_fields h.ArrayLit = places 0 (codes "elems") ∷ []
+node_fields h.ObjectLit = list 0 (codes "props") ∷ []
+node_fields h.FnExpr = optional 0 (codes "ident") ∷ single_node 1 (codes "function") ∷ []
+node_fields (h.UnaryExpr _) = single_node 1 (codes "arg") ∷ []
+node_fields (h.UpdateExpr _ _) = single_node 2 (codes "arg") ∷ []
+node_fields (h.BinExpr _) = single_node 1 (codes "left") ∷ single_node 2 (codes "right") ∷ []
+node_fields (h.AssignExpr _) = single_node 1 (codes "left") ∷ single_node 2 (codes "right") ∷ []
+node_fields h.MemberExpr = single_node 0 (codes "obj") ∷ single_node 1 (codes "prop") ∷ []
+node_fields h.SuperPropExpr = single_node 0 (codes "prop") ∷ []
+node_fields h.CondExpr =
+    single_node 0 (codes "test") ∷ single_node 1 (codes "cons") ∷ single_node 2 (codes "alt") ∷ []
+node_fields h.CallExpr = single_node 0 (codes "callee") ∷ list 1 (codes "args") ∷ []
+node_fields (h.NewExpr true) = single_node 0 (codes "callee") ∷ list 1 (codes "args") ∷ []
+node_fields (h.NewExpr false) = single_node 0 (codes "callee") ∷ optional 1 (codes "args") ∷ []
+node_fields h.SeqExpr = list 0 (codes "exprs") ∷ []
+node_fields h.Tpl = list 0 (codes "exprs") ∷ list 1 (codes "quasis") ∷ []
+node_fields h.TaggedTpl = single_node 0 (codes "tag") ∷ single_node 1 (codes "tpl") ∷ []
+node_fields (h.ArrowExpr _) = list 0 (codes "params") ∷ single_node 1 (codes "body") ∷ []
+node_fields h.ClassExpr = optional 0 (codes "ident") ∷ single_node 1 (codes "class") ∷ []
+node_fields (h.YieldExpr _) = optional 0 (codes "arg") ∷ []
+node_fields h.AwaitExpr = single_node 0 (codes "arg") ∷ []
+node_fields h.ParenExpr = single_node 0 (codes "expr") ∷ []
+node_fields (h.OptChainExpr _) = single_node 1 (codes "base") ∷ []
+node_fields h.OptCall = single_node 0 (codes "callee") ∷ list 1 (codes "args") ∷ []
+node_fields (h.ExprOrSpread _) = single_node 1 (codes "expr") ∷ []
 -- functions and classes (ECMA-262, 15)
-fields (h.Function _ _) = list 0 (codes "params") ∷ one 1 (codes "body") ∷ []
-fields h.Param = one 0 (codes "pat") ∷ []
-fields h.Class = optional 0 (codes "super_class") ∷ list 1 (codes "body") ∷ []
-fields h.Constructor = list 0 (codes "params") ∷ one 1 (codes "body") ∷ []
-fields (h.ClassMethod _ _) = one 0 (codes "key") ∷ one 1 (codes "function") ∷ []
-fields (h.PrivateMethod _ _) = one 0 (codes "key") ∷ one 1 (codes "function") ∷ []
-fields (h.ClassProp _) = one 0 (codes "key") ∷ optional 1 (codes "value") ∷ []
-fields (h.PrivateProp _) = one 0 (codes "key") ∷ optional 1 (codes "value") ∷ []
-fields h.StaticBlock = one 0 (codes "body") ∷ []
+node_fields (h.Function _ _) = list 0 (codes "params") ∷ single_node 1 (codes "body") ∷ []
+node_fields h.Param = single_node 0 (codes "pat") ∷ []
+node_fields h.Class = optional 0 (codes "super_class") ∷ list 1 (codes "body") ∷ []
+node_fields h.Constructor = list 0 (codes "params") ∷ single_node 1 (codes "body") ∷ []
+node_fields (h.ClassMethod _ _) =
+    single_node 0 (codes "key") ∷ single_node 1 (codes "function") ∷ []
+node_fields (h.PrivateMethod _ _) =
+    single_node 0 (codes "key") ∷ single_node 1 (codes "function") ∷ []
+node_fields (h.ClassProp _) = single_node 0 (codes "key") ∷ optional 1 (codes "value") ∷ []
+node_fields (h.PrivateProp _) = single_node 0 (codes "key") ∷ optional 1 (codes "value") ∷ []
+node_fields h.StaticBlock = single_node 0 (codes "body") ∷ []
 -- names and literals (ECMA-262, 12.7 and 13.2.3)
 -- properties of object literals (ECMA-262, 13.2.5)
-fields h.SpreadElement = one 0 (codes "expr") ∷ []
-fields h.KeyValueProp = one 0 (codes "key") ∷ one 1 (codes "value") ∷ []
-fields h.GetterProp = one 0 (codes "key") ∷ one 1 (codes "body") ∷ []
-fields h.SetterProp = one 0 (codes "key") ∷ one 1 (codes "param") ∷ one 2 (codes "body") ∷ []
-fields h.MethodProp = one 0 (codes "key") ∷ one 1 (codes "function") ∷ []
-fields h.ComputedPropName = one 0 (codes "expr") ∷ []
+node_fields h.SpreadElement = single_node 0 (codes "expr") ∷ []
+node_fields h.KeyValueProp = single_node 0 (codes "key") ∷ single_node 1 (codes "value") ∷ []
+node_fields h.GetterProp = single_node 0 (codes "key") ∷ single_node 1 (codes "body") ∷ []
+node_fields h.SetterProp =
+    single_node 0 (codes "key") ∷ single_node 1 (codes "param") ∷ single_node 2 (codes "body") ∷ []
+node_fields h.MethodProp = single_node 0 (codes "key") ∷ single_node 1 (codes "function") ∷ []
+node_fields h.ComputedPropName = single_node 0 (codes "expr") ∷ []
 -- patterns (ECMA-262, 14.3.3)
-fields h.BindingIdent = one 0 (codes "id") ∷ []
-fields h.ArrayPat = places 0 (codes "elems") ∷ []
-fields h.ObjectPat = list 0 (codes "props") ∷ []
-fields h.RestPat = one 0 (codes "arg") ∷ []
-fields h.AssignPat = one 0 (codes "left") ∷ one 1 (codes "right") ∷ []
-fields h.KeyValuePatProp = one 0 (codes "key") ∷ one 1 (codes "value") ∷ []
-fields h.AssignPatProp = one 0 (codes "key") ∷ optional 1 (codes "value") ∷ []
-fields _ = []
+node_fields h.BindingIdent = single_node 0 (codes "id") ∷ []
+node_fields h.ArrayPat = places 0 (codes "elems") ∷ []
+node_fields h.ObjectPat = list 0 (codes "props") ∷ []
+node_fields h.RestPat = single_node 0 (codes "arg") ∷ []
+node_fields h.AssignPat = single_node 0 (codes "left") ∷ single_node 1 (codes "right") ∷ []
+node_fields h.KeyValuePatProp = single_node 0 (codes "key") ∷ single_node 1 (codes "value") ∷ []
+node_fields h.AssignPatProp = single_node 0 (codes "key") ∷ optional 1 (codes "value") ∷ []
+node_fields _ = []
 
 -- what stands in a node and is no node, under its key
 pub data Scalar : Type 0 where
@@ -301,15 +310,15 @@ is_value None = false
 is_value (Some d) = not (is_null d)
 
 -- whether there is a value under a key, and it is not `null`
-abbrev pub is_given : List ℕ → Data → Bool
-is_given key d = is_value (get key d)
+abbrev pub is_value_given : List ℕ → Data → Bool
+is_value_given key d = is_value (get key d)
 
 -- what `d` has under the key is this scalar
-abbrev pub IsRead : Data → Scalar → Type 0
-IsRead d (text key it) = text_at key d ≡ Some it
-IsRead d (optional_text key it) = optional_text_at key d ≡ Some it
-IsRead d (truth key it) = truth_at key d ≡ Some it
-IsRead d (given key it) = is_given key d ≡ it
+abbrev pub IsScalarRead : Data → Scalar → Type 0
+IsScalarRead d (text key it) = text_at key d ≡ Some it
+IsScalarRead d (optional_text key it) = optional_text_at key d ≡ Some it
+IsScalarRead d (truth key it) = truth_at key d ≡ Some it
+IsScalarRead d (given key it) = is_value_given key d ≡ it
 
 -- what is noted on a declaration is not in the form
 abbrev pub HasNotes : ExportMetadata → Head → Type 0
@@ -322,7 +331,7 @@ HasNotes meta _ = Unit {0}
 -- `d` has the name and the scalars of a node with this head
 pub record IsHeadOf (meta : ExportMetadata) (d : Data) (head : Head) : Type 0 where
   pub named : text_at (codes "type") d ≡ Some (name head)
-  pub filled : AllByRecursion (IsRead d) (scalars head)
+  pub filled : AllByRecursion (IsScalarRead d) (scalars head)
   pub noted : HasNotes meta head
 
 -- Roles of identifiers (ECMA-262, 8.2 and 13.1).
@@ -396,7 +405,7 @@ abbrev mutual
 -- What a value is read as.
 
 -- a module, or a property of a list
-abbrev pub top : Place
+abbrev pub top : NodePlace
 top = record { field = 0; ident = Reference; names = Reference; has_holes = false }
 
 abbrev pub allows_holes : Shape → Bool
@@ -406,8 +415,8 @@ allows_holes s.List = false
 allows_holes s.Places = true
 
 -- the place of a field in a node that is read from `d`, where the names of the node itself are `names`
-abbrev pub place_in : Head → Role → Data → Field → Place
-place_in head names d it = record { field = it.number; ident = ident_role head it.number names; names = names_role head it.number names (is_given (codes "src") d); has_holes = allows_holes it.shape }
+abbrev pub place_in : Head → Role → Data → Field → NodePlace
+place_in head names d it = record { field = it.number; ident = ident_role head it.number names; names = names_role head it.number names (is_value_given (codes "src") d); has_holes = allows_holes it.shape }
 
 -- the values that stand for nodes under a key, if what is there has the shape
 abbrev pub values : Shape → Option Data → Option Items
@@ -421,7 +430,8 @@ values s.Places None = Some no_items
 values s.Places (Some d) = as_array d
 
 -- `d` is an identifier; a context in it is passed over
-pub record IsIdent (at : Place) (d : Data) (sym : List ℕ) (ctxt : ℕ) (role : Role) : Type 0 where
+pub record IsIdent (at : NodePlace) (d : Data) (sym : List ℕ) (ctxt : ℕ)
+    (role : Role) : Type 0 where
   pub named : text_at (codes "type") d ≡ Some (codes "Ident")
   pub symbol : text_at (codes "sym") d ≡ Some sym
   pub no_context : ctxt ≡ 0
@@ -430,10 +440,10 @@ pub record IsIdent (at : Place) (d : Data) (sym : List ℕ) (ctxt : ℕ) (role :
 -- `d` is the form of this tree in this place, where `meta` is noted on its declarations. Members of other
 -- keys are passed over
 abbrev mutual
-  pub Reads : ExportMetadata → Place → Data → Tree → Type 0
+  pub Reads : ExportMetadata → NodePlace → Data → Tree → Type 0
   Reads meta at d (ident sym ctxt role) = IsIdent at d sym ctxt role
   Reads meta at d hole = (at.has_holes ≡ true) × (is_null d ≡ true)
-  Reads meta at d (node head inside) = IsHeadOf meta d head × ReadsFields meta at.names d head (fields head) inside
+  Reads meta at d (node head inside) = IsHeadOf meta d head × ReadsFields meta at.names d head (node_fields head) inside
 
   -- the fields of a node have their numbers, and what stands under their keys
   pub ReadsFields : ExportMetadata → Role → Data → Head → List Field → Fields → Type 0
@@ -445,20 +455,21 @@ abbrev mutual
       × ReadsFields meta names d head more rest
 
   -- the values are one by one the forms of these trees
-  pub ReadsEach : ExportMetadata → Place → Items → Trees → Type 0
+  pub ReadsEach : ExportMetadata → NodePlace → Items → Trees → Type 0
   ReadsEach meta at no_items no_trees = Unit {0}
   ReadsEach meta at no_items (tree it rest) = ⊥
   ReadsEach meta at (item d ds) no_trees = ⊥
   ReadsEach meta at (item d ds) (tree it rest) = Reads meta at d it × ReadsEach meta at ds rest
 
 -- `d` is the form of the node in this place whose list is `items`
-pub record IsForm (meta : ExportMetadata) (at : Place) (d : Data) (items : List Item) : Type 0 where
+pub record IsForm (meta : ExportMetadata) (at : NodePlace) (d : Data)
+    (items : List Item) : Type 0 where
   pub it : Tree
   pub read : Reads meta at d it
   pub listed : items ≡ tree_items at.field it
 
 -- `ds` are one by one the forms of the nodes in this place whose list is `items`
-pub record AreForms (meta : ExportMetadata) (at : Place) (ds : Items) (items : List Item) : Type 0 where
+pub record AreForms (meta : ExportMetadata) (at : NodePlace) (ds : Items) (items : List Item) : Type 0 where
   pub them : Trees
   pub read : ReadsEach meta at ds them
   pub listed : items ≡ trees_items at.field them
@@ -494,7 +505,7 @@ abbrev mutual
   pub written : Tree → Data
   written (ident sym ctxt role) = object (with_context ctxt (put (codes "sym") (string sym) (put (codes "type") (string (codes "Ident")) no_members)))
   written hole = null
-  written (node head inside) = object (with_fields (fields head) inside (with_scalars (scalars head) (put (codes "type") (string (name head)) no_members)))
+  written (node head inside) = object (with_fields (node_fields head) inside (with_scalars (scalars head) (put (codes "type") (string (name head)) no_members)))
 
   pub with_fields : List Field → Fields → Members → Members
   with_fields [] inside members = members
@@ -516,7 +527,7 @@ abbrev mutual
   pub IsLaidOut : Tree → Type 0
   IsLaidOut (ident sym ctxt role) = Unit {0}
   IsLaidOut hole = Unit {0}
-  IsLaidOut (node head inside) = AreLaidOut (fields head) inside
+  IsLaidOut (node head inside) = AreLaidOut (node_fields head) inside
 
   pub AreLaidOut : List Field → Fields → Type 0
   AreLaidOut [] no_fields = Unit {0}

@@ -1,20 +1,20 @@
 -- The one kind of node that may have a name, by its length and a letter or two of it.
 use Rattle.std.specs.Prelude.{ℕ, ◌==◌, ◌&&◌, if◌then◌else◌, Bool, false, List, [], ◌∷◌, Option, Some, None, get_or, length, slice_get}
-use Rattle.bundle_tree_leaf.specs.declared.kind.ExportMetadata.{ExportMetadata}
-use Rattle.bundle_tree_leaf.specs.declared.kind.MetaPropKind.TheVariants.{NewTarget}
-use Rattle.bundle_tree_leaf.specs.declared.kind.MethodKind.TheVariants.{Method}
-use Rattle.bundle_tree_leaf.specs.declared.kind.VarDeclKind.TheVariants.{Var}
-use Rattle.bundle_tree_leaf.specs.declared.operator.AssignOp.TheVariants.{Assign}
-use Rattle.bundle_tree_leaf.specs.declared.operator.BinaryOp.TheVariants.{EqEq}
-use Rattle.bundle_tree_leaf.specs.declared.operator.UnaryOp.TheVariants.{Minus}
-use Rattle.bundle_tree_leaf.specs.declared.operator.UpdateOp.TheVariants.{PlusPlus}
-use Rattle.bundle_tree_piece.specs.Item as h
-use Rattle.bundle_tree_piece.specs.Item.{Head}
+use Rattle.bundle_syntax.specs.declared.kind.ExportMetadata.{ExportMetadata}
+use Rattle.bundle_syntax.specs.declared.kind.MetaPropKind.TheVariants.{NewTarget}
+use Rattle.bundle_syntax.specs.declared.kind.MethodKind.TheVariants.{Method}
+use Rattle.bundle_syntax.specs.declared.kind.VarDeclKind.TheVariants.{Var}
+use Rattle.bundle_syntax.specs.declared.operator.AssignOp.TheVariants.{Assign}
+use Rattle.bundle_syntax.specs.declared.operator.BinaryOp.TheVariants.{EqEq}
+use Rattle.bundle_syntax.specs.declared.operator.UnaryOp.TheVariants.{Minus}
+use Rattle.bundle_syntax.specs.declared.operator.UpdateOp.TheVariants.{PlusPlus}
+use Rattle.bundle_syntax.specs.Item as h
+use Rattle.bundle_syntax.specs.Item.{Head}
 use Rattle.bundle_json_form.specs.Form.{name}
 
 -- what stands in for notes
-abbrev pub no_notes : ExportMetadata
-no_notes = record { injected = false; export_ctxt = None }
+abbrev pub no_form_notes : ExportMetadata
+no_form_notes = record { injected = false; export_ctxt = None }
 
 -- the letter of a kind's name at a place
 abbrev pub letter_at : ℕ → Head → ℕ
@@ -49,7 +49,7 @@ of_six third =
 abbrev pub of_seven : ℕ → Option Head
 of_seven first =
     with_letter 0 first
-    (h.TryStmt ∷ h.ForStmt ∷ h.VarDecl Var no_notes ∷ h.BinExpr EqEq ∷ h.NewExpr false ∷ h.SeqExpr
+    (h.TryStmt ∷ h.ForStmt ∷ h.VarDecl Var no_form_notes ∷ h.BinExpr EqEq ∷ h.NewExpr false ∷ h.SeqExpr
     ∷ h.OptCall ∷ h.RestPat ∷ [])
 
 abbrev pub of_eight : ℕ → ℕ → Option Head
@@ -61,7 +61,7 @@ of_eight second sixth =
 abbrev pub of_nine : ℕ → ℕ → Option Head
 of_nine fourth seventh =
     with_letters 3 fourth 6 seventh
-    (h.ExportAll no_notes ∷ h.BlockStmt ∷ h.EmptyStmt ∷ h.BreakStmt ∷ h.ThrowStmt ∷ h.WhileStmt
+    (h.ExportAll no_form_notes ∷ h.BlockStmt ∷ h.EmptyStmt ∷ h.BreakStmt ∷ h.ThrowStmt ∷ h.WhileStmt
     ∷ h.ForInStmt ∷ h.ForOfStmt false ∷ h.ClassDecl ∷ h.ClassProp false ∷ h.IdentName []
     ∷ h.ObjectPat ∷ h.AssignPat ∷ h.ObjectLit ∷ h.UnaryExpr Minus ∷ h.TaggedTpl
     ∷ h.ArrowExpr false ∷ h.ClassExpr ∷ h.YieldExpr false ∷ h.AwaitExpr ∷ h.ParenExpr ∷ [])
@@ -75,14 +75,14 @@ expression_of_nine fourth seventh =
 abbrev pub of_ten : ℕ → ℕ → Option Head
 of_ten first seventh =
     with_letters 0 first 6 seventh
-    (h.ImportDecl no_notes ∷ h.ExportDecl ∷ h.ReturnStmt ∷ h.SwitchStmt ∷ h.SwitchCase
+    (h.ImportDecl no_form_notes ∷ h.ExportDecl ∷ h.ReturnStmt ∷ h.SwitchStmt ∷ h.SwitchCase
     ∷ h.UpdateExpr PlusPlus false ∷ h.AssignExpr Assign ∷ h.MemberExpr ∷ h.TplElement []
     ∷ h.GetterProp ∷ h.SetterProp ∷ h.MethodProp ∷ [])
 
 abbrev pub of_eleven : ℕ → ℕ → Option Head
 of_eleven first eighth =
     with_letters 0 first 7 eighth
-    (h.NamedExport no_notes ∷ h.LabeledStmt ∷ h.CatchClause ∷ h.DoWhileStmt ∷ h.Constructor
+    (h.NamedExport no_form_notes ∷ h.LabeledStmt ∷ h.CatchClause ∷ h.DoWhileStmt ∷ h.Constructor
     ∷ h.ClassMethod Method false ∷ h.PrivateProp false ∷ h.StaticBlock ∷ h.PrivateName [] ∷ [])
 
 abbrev pub of_twelve : ℕ → Option Head
@@ -97,18 +97,18 @@ of_thirteen second =
     (h.VarDeclarator ∷ h.SuperPropExpr ∷ h.PrivateMethod Method false ∷ h.SpreadElement
     ∷ h.AssignPatProp ∷ [])
 
-abbrev pub is_letter : ℕ → Option ℕ → Bool
-is_letter it None = false
-is_letter it (Some letter) = letter == it
+abbrev pub is_letter_at : ℕ → Option ℕ → Bool
+is_letter_at it None = false
+is_letter_at it (Some letter) = letter == it
 
 abbrev pub of_many : List ℕ → Option Head
 of_many it =
     if length it == 15 then Some h.KeyValuePatProp
     else if length it == 16 then Some h.ComputedPropName
     else if length it == 17 then
-    (if is_letter 68 (slice_get it 13) then Some h.ExportDefaultDecl else Some h.ExportDefaultExpr)
+    (if is_letter_at 68 (slice_get it 13) then Some h.ExportDefaultDecl else Some h.ExportDefaultExpr)
     else if length it == 20 then
-    (if is_letter 73 (slice_get it 0) then Some h.ImportNamedSpecifier else Some h.ExportNamedSpecifier)
+    (if is_letter_at 73 (slice_get it 0) then Some h.ImportNamedSpecifier else Some h.ExportNamedSpecifier)
     else if length it == 21 then Some h.ImportStarAsSpecifier
     else if length it == 22 then Some h.ImportDefaultSpecifier
     else if length it == 24 then Some h.ExportNamespaceSpecifier

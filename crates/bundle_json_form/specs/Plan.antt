@@ -2,12 +2,12 @@
 use Rattle.std.specs.Prelude.{◌≡◌, ◌<◌, ◌≤◌, ℕ, Bool, List, [], ◌∷◌, ◌++◌, map, take, drop, set, length, Some, None, codes}
 use Rattle.std.specs.Ordering.{nat_cmp, match_ordering}
 use Rattle.std.specs.Cmp.Lexicographic.{slice_cmp}
-use Rattle.bundle_tree_piece.specs.Item.{Head}
+use Rattle.bundle_syntax.specs.Item.{Head}
 use Rattle.bundle_json_form.specs.declared.layout.Shape.{Shape}
 use Rattle.bundle_json_form.specs.declared.plan.Content as r_content
 use Rattle.bundle_json_form.specs.declared.plan.Content.TheVariants as c
 use Rattle.bundle_json_form.specs.declared.plan.Member as r_member
-use Rattle.bundle_json_form.specs.Form.{Field, fields, name, Scalar, text, optional_text, truth, given, scalars}
+use Rattle.bundle_json_form.specs.Form.{Field, node_fields, name, Scalar, text, optional_text, truth, given, scalars}
 
 -- what stands under a key: nothing, a truth value, a text, or the nodes in the field of a number
 pub data Content : Type 0 where
@@ -33,17 +33,17 @@ abbrev pub planned : List r_member.Member → List Member
 planned = map member_of
 
 -- the members, with this one in the order of the keys
-abbrev pub put : List ℕ → Content → List Member → List Member
-put key it [] = (key, it) ∷ []
-put key it (first ∷ more) =
+abbrev pub put_member : List ℕ → Content → List Member → List Member
+put_member key it [] = (key, it) ∷ []
+put_member key it (first ∷ more) =
     match_ordering (slice_cmp nat_cmp key first.0) ((key, it) ∷ first ∷ more)
-    ((first.0, it) ∷ more) (first ∷ put key it more)
+    ((first.0, it) ∷ more) (first ∷ put_member key it more)
 
 abbrev pub put_scalar : Scalar → List Member → List Member
-put_scalar (text key it) members = put key (a_text it) members
-put_scalar (optional_text key None) members = put key nothing members
-put_scalar (optional_text key (Some it)) members = put key (a_text it) members
-put_scalar (truth key it) members = put key (a_truth it) members
+put_scalar (text key it) members = put_member key (a_text it) members
+put_scalar (optional_text key None) members = put_member key nothing members
+put_scalar (optional_text key (Some it)) members = put_member key (a_text it) members
+put_scalar (truth key it) members = put_member key (a_truth it) members
 put_scalar (given key it) members = members
 
 abbrev pub put_scalars : List Scalar → List Member → List Member
@@ -52,21 +52,22 @@ put_scalars (it ∷ more) members = put_scalars more (put_scalar it members)
 
 abbrev pub put_fields : List Field → List Member → List Member
 put_fields [] members = members
-put_fields (it ∷ more) members = put_fields more (put it.key (nodes it.shape it.number) members)
+put_fields (it ∷ more) members =
+    put_fields more (put_member it.key (nodes it.shape it.number) members)
 
 -- the members of the object of a node
 abbrev pub plan : Head → List Member
 plan head =
-    put_fields (fields head) (put_scalars (scalars head) (put (codes "type") (a_text (name head)) []))
+    put_fields (node_fields head) (put_scalars (scalars head) (put_member (codes "type") (a_text (name head)) []))
 
 -- at this place stands the member of the key
-pub record StandsAt (key : List ℕ) (members : List Member) (place : ℕ) : Type 0 where
+pub record IsMemberAt (key : List ℕ) (members : List Member) (place : ℕ) : Type 0 where
   pub within : place < length members
   pub put_in : (it : Content) →
-      put key it members ≡ set members place (key, it)
+      put_member key it members ≡ set members place (key, it)
 
 -- no member is of the key, and at this place one is to be put in
 pub record BelongsAt (key : List ℕ) (members : List Member) (place : ℕ) : Type 0 where
   pub within : place ≤ length members
   pub put_in : (it : Content) →
-      put key it members ≡ take place members ++ (key, it) ∷ drop place members
+      put_member key it members ≡ take place members ++ (key, it) ∷ drop place members

@@ -15,9 +15,9 @@ pub enum FormError {
 /// Writes why.
 impl fmt::Display for FormError {
     ghost use Rattle.std.specs.Prelude.{Some};
-    ghost use Rattle.bundle_json_form.specs.Error.{shown};
+    ghost use Rattle.bundle_json_form.specs.Error.{form_error_shown};
 
-    ghost output = { λ refusal. Some (shown refusal) };
+    ghost output = { λ refusal. Some (form_error_shown refusal) };
 
     fn fmt<W: fmt::Write>(&self, f: &mut fmt::Formatter<W>) -> fmt::Result {
         let reason = match self {

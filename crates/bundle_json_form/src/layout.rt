@@ -1,12 +1,12 @@
 //! How each node is written: its name, and the keys of the fields that hold nodes.
 
 ghost use Rattle.std.specs.Prelude.{◌≡◌};
-ghost use Rattle.bundle_tree_piece.specs.Item.{head_of};
-ghost use Rattle.bundle_json_form.specs.Form.{name, fields};
+ghost use Rattle.bundle_syntax.specs.Item.{head_of};
+ghost use Rattle.bundle_json_form.specs.Form.{name, node_fields};
 ghost use Rattle.bundle_json_form.specs.Entries.{entry_field, laid_out};
-ghost use Rattle.bundle_json_form.specs.Layout.{field_of, listed};
+ghost use Rattle.bundle_json_form.specs.Layout.{layout_field, present_fields};
 
-use bundle_tree_piece::Node;
+use bundle_syntax::Node;
 
 /// What stands under a key.
 #[derive(Clone, Copy)]
@@ -48,7 +48,7 @@ enum Layout {
 
 // The field of an entry.
 fn as_field(entry: Entry) -> Field
-    ensures { field_of result ≡ entry_field entry }
+    ensures { layout_field result ≡ entry_field entry }
 {
     match entry {
         Entry::One(number, key) => Field {
@@ -186,7 +186,7 @@ pub fn name_of(node: &Node) -> &'static str
 
 /// The fields of a node that hold nodes, in the order of their numbers.
 pub fn fields_of(node: &Node) -> [Option<Field>; 4]
-    ensures { listed result ≡ fields (head_of node.now) }
+    ensures { present_fields result ≡ node_fields (head_of node.now) }
 {
     match layout_of(node) {
         Layout::Nothing => [None, None, None, None],
@@ -209,7 +209,7 @@ pub fn fields_of(node: &Node) -> [Option<Field>; 4]
 
 // The same as data: calls in so many arms make the check dear.
 fn layout_of(node: &Node) -> Layout
-    ensures { laid_out result ≡ fields (head_of node.now) }
+    ensures { laid_out result ≡ node_fields (head_of node.now) }
 {
     match node {
         // Modules (ECMA-262, 16.2).

@@ -1,10 +1,10 @@
 //! A node by its name, read with what stands in it and is no node.
 
 ghost use Rattle.std.specs.Prelude.{◌≡◌, ◌≢◌, ℕ, Bool, List, Option, Some, IfOk, IfErr, option_map, codes};
-ghost use Rattle.bundle_tree_leaf.specs.Text.{unary_text, update_text, binary_text, assign_text, declaration_word, method_word, meta_prop_text};
-ghost use Rattle.bundle_tree_piece.specs.Item.{head_of, Head};
+ghost use Rattle.bundle_syntax.specs.Text.{unary_text, update_text, binary_text, assign_text, declaration_word, method_word, meta_prop_text};
+ghost use Rattle.bundle_syntax.specs.Item.{head_of, Head};
 ghost use Rattle.bundle_json_form.specs.Form as form;
-ghost use Rattle.bundle_json_form.specs.Form.{text_at, optional_text_at, truth_at, is_given, IsHeadOf};
+ghost use Rattle.bundle_json_form.specs.Form.{text_at, optional_text_at, truth_at, is_value_given, IsHeadOf};
 ghost use Rattle.bundle_json_form.specs.Kinds as kinds;
 ghost use Rattle.bundle_json_form.specs.Plain.{seen};
 ghost use Rattle.bundle_json_form.specs.Reading.{HasScalars, IsFilled};
@@ -12,9 +12,9 @@ ghost use Rattle.bundle_json_form.specs.Reading.{HasScalars, IsFilled};
 use crate::error::FormError;
 use crate::layout::name_of;
 use crate::seen::{as_bool, as_str, get, is_null, is_same};
-use bundle_tree_leaf::kind::{ExportMetadata, MetaPropKind, MethodKind, VarDeclKind};
-use bundle_tree_leaf::operator::{AssignOp, BinaryOp, UnaryOp, UpdateOp};
-use bundle_tree_piece::Node;
+use bundle_syntax::Node;
+use bundle_syntax::kind::{ExportMetadata, MetaPropKind, MethodKind, VarDeclKind};
+use bundle_syntax::operator::{AssignOp, BinaryOp, UnaryOp, UpdateOp};
 use json::Value;
 
 // Where names have three to six letters: the kind that this letter leaves.
@@ -291,12 +291,12 @@ pub fn kind_named<'a>(name: &str, meta: &'a ExportMetadata) -> Result<Node<'a>, 
 
 /// A value that may stand for a node.
 #[derive(Clone, Copy)]
-pub struct Object<'v, 'a> {
+pub struct NodeValue<'v, 'a> {
     pub value: &'v Value<'a>,
     pub meta: &'a ExportMetadata,
 }
 
-impl<'v, 'a> Object<'v, 'a> {
+impl<'v, 'a> NodeValue<'v, 'a> {
     /// The text under `key`.
     pub fn text(&self, key: &str) -> Result<&'a str, FormError>
         ensures read { IfOk result (λ it.
@@ -337,7 +337,7 @@ impl<'v, 'a> Object<'v, 'a> {
 
     /// Whether there is a value under `key`, and it is not `null`.
     pub fn has(&self, key: &str) -> bool
-        ensures { result ≡ is_given key.now (seen self.now.value.now) }
+        ensures { result ≡ is_value_given key.now (seen self.now.value.now) }
     {
         match get(self.value, key) {
             None => false,

@@ -3,13 +3,13 @@
 ghost use Rattle.std.specs.Prelude.{◌≡◌, IfOk, IfErr, OnOk};
 ghost use Rattle.std.specs.Ordering.{nat_cmp};
 ghost use Rattle.std.specs.Cmp.Lexicographic.{slice_cmp};
-ghost use Rattle.bundle_tree_piece.specs.Item.{head_of};
+ghost use Rattle.bundle_syntax.specs.Item.{head_of};
 ghost use Rattle.bundle_json_form.specs.Scalars.{scalar_of, scalars_in};
-ghost use Rattle.bundle_json_form.specs.Plan.{content_of, plan, put as with_member, put_scalar as with_scalar, put_scalars as with_scalars, planned, BelongsAt, StandsAt};
+ghost use Rattle.bundle_json_form.specs.Plan.{content_of, plan, put_member as with_member, put_scalar as with_scalar, put_scalars as with_scalars, planned, BelongsAt, IsMemberAt};
 
 use crate::layout::{Shape, fields_of, name_of};
 use crate::scalar::{Scalar, Scalars, scalars_of};
-use bundle_tree_piece::Node;
+use bundle_syntax::Node;
 use std::alloc::{AllocError, Global};
 use std::cmp::Ordering;
 
@@ -103,7 +103,7 @@ fn put<'a>(
 
 // The place of the member of a key, or else where it is to be put in.
 fn place_of(members: &[Member<'_>], key: &'static str) -> Result<usize, usize>
-    ensures there { IfOk result (StandsAt key.now (planned members.now)) }
+    ensures there { IfOk result (IsMemberAt key.now (planned members.now)) }
     ensures free { IfErr result (BelongsAt key.now (planned members.now)) }
 {
     for (place, member) in members.iter().enumerate() {

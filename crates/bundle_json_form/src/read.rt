@@ -2,20 +2,20 @@
 
 ghost use Rattle.std.specs.Prelude.{◌≡◌, [], ◌∷◌, ◌++◌, List, Some, map, codes, IfErr, IfOk, OnOk, IsSomeAnd};
 ghost use Rattle.serde_json.specs.Find.{as_array, get};
-ghost use Rattle.bundle_tree_piece.specs.Item.{head_of, item_of, Item};
+ghost use Rattle.bundle_syntax.specs.Item.{head_of, item_of, Item};
 ghost use Rattle.bundle_json_form.specs.Form.{text_at, top, values, place_in as place_of_field, IsForm, AreForms};
-ghost use Rattle.bundle_json_form.specs.Layout.{field_of};
-ghost use Rattle.bundle_json_form.specs.Reading.{Grows, HasNoField, HasNoNode, HasNoNodes, RefusesFor};
+ghost use Rattle.bundle_json_form.specs.Layout.{layout_field};
+ghost use Rattle.bundle_json_form.specs.Reading.{GrowsBy, HasNoField, HasNoNode, HasNoNodes, RefusesReading};
 ghost use Rattle.bundle_json_form.specs.declared.error.FormError.TheVariants.{OutOfMemory};
 ghost use Rattle.bundle_json_form.specs.Plain.{items_seen, seen};
 
 use crate::error::FormError;
 use crate::layout::{Field, Shape, fields_of};
-use crate::node::Object;
-use crate::role::{Place, role_in, role_of_ident};
+use crate::node::NodeValue;
+use crate::role::{NodePlace, role_in, role_of_ident};
 use crate::seen::{get as get_in, is_null, is_same, items};
-use bundle_tree_leaf::kind::ExportMetadata;
-use bundle_tree_piece::{Node, Piece, Role};
+use bundle_syntax::kind::ExportMetadata;
+use bundle_syntax::{Node, Piece, Role};
 use json::Value;
 use std::alloc::Global;
 
@@ -30,11 +30,11 @@ pub fn read_module<'v, 'a>(
         IsForm meta.now top (seen value.now) (map item_of list.items)) }
     ensures only { IfOk result (λ list. (other : List Item) →
         IsForm meta.now top (seen value.now) other → other ≡ map item_of list.items) }
-    ensures refused { IfErr result (RefusesFor
+    ensures refused { IfErr result (RefusesReading
         ((list : List Item) → ¬ IsForm meta.now top (seen value.now) list)) }
 {
     let mut pieces = Vec::new(alloc);
-    read_node(&mut pieces, Object { value, meta }, Place::top())?;
+    read_node(&mut pieces, NodeValue { value, meta }, NodePlace::top())?;
     Ok(pieces)
 }
 
@@ -50,7 +50,7 @@ pub fn read_properties<'v, 'a>(
     ensures only { IfOk result (λ list. (other : List Item) →
         IsSomeAnd (as_array (seen value.now)) (λ forms. AreForms meta.now top forms other)
         → other ≡ map item_of list.items) }
-    ensures refused { IfErr result (RefusesFor
+    ensures refused { IfErr result (RefusesReading
         ((list : List Item) → ¬ IsSomeAnd (as_array (seen value.now))
         (λ forms. AreForms meta.now top forms list))) }
 {
@@ -58,7 +58,7 @@ pub fn read_properties<'v, 'a>(
     let Some(list) = items(value) else {
         return Err(FormError::Form);
     };
-    read_list(&mut pieces, list, meta, Place::top())?;
+    read_list(&mut pieces, list, meta, NodePlace::top())?;
     Ok(pieces)
 }
 
@@ -76,12 +76,12 @@ fn add<'a>(pieces: &mut Vec<Piece<'a>>, piece: Piece<'a>) -> Result<(), FormErro
 #[cycle(read)]
 fn read_node<'v, 'a>(
     pieces: &mut Vec<Piece<'a>>,
-    object: Object<'v, 'a>,
-    place: Place,
+    object: NodeValue<'v, 'a>,
+    place: NodePlace,
 ) -> Result<(), FormError>
-    ensures read { OnOk result (Grows (IsForm object.entry.meta.now place (seen object.entry.value.now))
+    ensures read { OnOk result (GrowsBy (IsForm object.entry.meta.now place (seen object.entry.value.now))
         (map item_of pieces.old.items) (map item_of pieces.new.items)) }
-    ensures refused { IfErr result (RefusesFor
+    ensures refused { IfErr result (RefusesReading
         (HasNoNode object.entry.meta.now place (seen object.entry.value.now))) }
 {
     let name = object.text("type")?;
@@ -102,17 +102,17 @@ fn read_node<'v, 'a>(
 // Adds the identifier that the object stands for.
 fn read_ident<'v, 'a>(
     pieces: &mut Vec<Piece<'a>>,
-    object: Object<'v, 'a>,
-    place: Place,
+    object: NodeValue<'v, 'a>,
+    place: NodePlace,
 ) -> Result<(), FormError>
     requires { text_at (codes "type") (seen object.value.now) ≡ Some (codes "Ident") }
-    ensures read { OnOk result (Grows (IsForm object.entry.meta.now place (seen object.entry.value.now))
+    ensures read { OnOk result (GrowsBy (IsForm object.entry.meta.now place (seen object.entry.value.now))
         (map item_of pieces.old.items) (map item_of pieces.new.items)) }
-    ensures refused { IfErr result (RefusesFor
+    ensures refused { IfErr result (RefusesReading
         (HasNoNode object.entry.meta.now place (seen object.entry.value.now))) }
 {
     let sym = object.text("sym")?;
-    let Place {
+    let NodePlace {
         field,
         ident: role,
         ..
@@ -129,12 +129,12 @@ fn read_ident<'v, 'a>(
 }
 
 // Where the nodes in a field of `node` stand, whose names as a pattern are `names`.
-fn place_in(object: Object<'_, '_>, node: &Node, names: Role, field: Field) -> Place
+fn place_in(object: NodeValue<'_, '_>, node: &Node, names: Role, field: Field) -> NodePlace
     ensures { result
-        ≡ place_of_field (head_of node.now) names (seen object.entry.value.now) (field_of field) }
+        ≡ place_of_field (head_of node.now) names (seen object.entry.value.now) (layout_field field) }
 {
     let number = field.number;
-    Place {
+    NodePlace {
         field: number,
         ident: role_of_ident(node, number, names),
         names: role_in(node, number, names, object.has("src")),
@@ -149,21 +149,21 @@ fn place_in(object: Object<'_, '_>, node: &Node, names: Role, field: Field) -> P
 #[cycle(read)]
 fn read_field<'v, 'a>(
     pieces: &mut Vec<Piece<'a>>,
-    object: Object<'v, 'a>,
+    object: NodeValue<'v, 'a>,
     node: &Node<'a>,
     names: Role,
     field: Field,
 ) -> Result<(), FormError>
     ensures read { OnOk result (IsSomeAnd
         (values field.shape (get field.key.now (seen object.entry.value.now)))
-        (λ forms. Grows
+        (λ forms. GrowsBy
         (AreForms object.entry.meta.now
-        (place_of_field (head_of node.now) names (seen object.entry.value.now) (field_of field))
+        (place_of_field (head_of node.now) names (seen object.entry.value.now) (layout_field field))
         forms)
         (map item_of pieces.old.items) (map item_of pieces.new.items))) }
-    ensures refused { IfErr result (RefusesFor
+    ensures refused { IfErr result (RefusesReading
         (HasNoField object.entry.meta.now
-        (place_of_field (head_of node.now) names (seen object.entry.value.now) (field_of field))
+        (place_of_field (head_of node.now) names (seen object.entry.value.now) (layout_field field))
         field.shape (get field.key.now (seen object.entry.value.now)))) }
 {
     let place = place_in(object, node, names, field);
@@ -175,12 +175,12 @@ fn read_field<'v, 'a>(
         };
     };
     match field.shape {
-        Shape::One => read_node(pieces, Object { value, meta }, place),
+        Shape::One => read_node(pieces, NodeValue { value, meta }, place),
         Shape::Optional => {
             if is_null(value) {
                 Ok(())
             } else {
-                read_node(pieces, Object { value, meta }, place)
+                read_node(pieces, NodeValue { value, meta }, place)
             }
         }
         Shape::List | Shape::Places => match items(value) {
@@ -196,11 +196,11 @@ fn read_list<'v, 'a>(
     pieces: &mut Vec<Piece<'a>>,
     list: &'v [Value<'a>],
     meta: &'a ExportMetadata,
-    place: Place,
+    place: NodePlace,
 ) -> Result<(), FormError>
-    ensures read { OnOk result (Grows (AreForms meta.now place (items_seen list.now))
+    ensures read { OnOk result (GrowsBy (AreForms meta.now place (items_seen list.now))
         (map item_of pieces.old.items) (map item_of pieces.new.items)) }
-    ensures refused { IfErr result (RefusesFor
+    ensures refused { IfErr result (RefusesReading
         (HasNoNodes meta.now place (items_seen list.now))) }
 {
     for value in list {
@@ -208,7 +208,7 @@ fn read_list<'v, 'a>(
             let field = place.field;
             add(pieces, Piece::Hole { field })?;
         } else {
-            read_node(pieces, Object { value, meta }, place)?;
+            read_node(pieces, NodeValue { value, meta }, place)?;
         }
     }
     Ok(())

@@ -1,15 +1,15 @@
 //! Where a node stands, and what the identifiers in it are (ECMA-262, 8.2 and 13.1).
 
 ghost use Rattle.std.specs.Prelude.{◌≡◌};
-ghost use Rattle.bundle_tree_piece.specs.Item.{head_of};
+ghost use Rattle.bundle_syntax.specs.Item.{head_of};
 ghost use Rattle.bundle_json_form.specs.Form.{ident_role, names_role, top as top_place};
 
-use bundle_tree_piece::{Node, Role};
+use bundle_syntax::{Node, Role};
 
 /// Where a node stands: the number of its field, what it is if it is an identifier, what the names of its
 /// patterns are, and whether a `null` there is a place that has no element.
 #[derive(Clone, Copy)]
-pub struct Place {
+pub struct NodePlace {
     pub field: u8,
     pub ident: Role,
     pub names: Role,
@@ -75,12 +75,12 @@ pub fn role_of_ident(node: &Node, field: u8, role: Role) -> Role
     }
 }
 
-impl Place {
+impl NodePlace {
     /// Where a module stands, or a property of a list of properties.
-    pub fn top() -> Place
+    pub fn top() -> NodePlace
         ensures { result ≡ top_place }
     {
-        Place {
+        NodePlace {
             field: 0,
             ident: Role::Reference,
             names: Role::Reference,

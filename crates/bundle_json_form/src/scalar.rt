@@ -3,12 +3,12 @@
 ghost use Rattle.std.specs.Prelude.{◌≡◌, Option, option_map, OnOk};
 ghost use Rattle.serde_json.specs.Data.{null, boolean, string, object, no_members, put as with_member};
 ghost use Rattle.serde_json.specs.View.{view};
-ghost use Rattle.bundle_tree_piece.specs.Item.{head_of};
+ghost use Rattle.bundle_syntax.specs.Item.{head_of};
 ghost use Rattle.bundle_json_form.specs.Form.{scalars, with_scalar, with_scalars, optional_text};
 ghost use Rattle.bundle_json_form.specs.Scalars.{scalar_of, scalars_in};
 ghost use Rattle.bundle_json_form.specs.Writing.{members_in};
 
-use bundle_tree_piece::Node;
+use bundle_syntax::Node;
 use serde_json::{Map, Value};
 use std::alloc::{AllocError, Global};
 

@@ -1,19 +1,19 @@
 //! From the list of a tree to the compact text of its JSON form, with no value between them.
 
 ghost use Rattle.std.specs.Prelude.{◌≡◌, ◌+◌, ◌^◌, ◌<◌, ◌≤◌, [], ◌∷◌, ◌++◌, length, map, string_bytes, IfNone, IfSome, OnOk, OnSome};
-ghost use Rattle.bundle_tree_piece.specs.Item.{head_of, item_of};
-ghost use Rattle.bundle_tree_piece.specs.declared.piece.Role.TheVariants.{Reference};
+ghost use Rattle.bundle_syntax.specs.Item.{head_of, item_of};
+ghost use Rattle.bundle_syntax.specs.declared.piece.Role.TheVariants.{Reference};
 ghost use Rattle.serde_json.specs.Written.{compact_text, comma_if};
 ghost use Rattle.json.specs.Print.{quoted};
 ghost use Rattle.bundle_json_form.specs.Form.{ident, written};
 ghost use Rattle.bundle_json_form.specs.declared.layout.Shape.TheVariants.{Optional as OneOrNone, List as AList};
 ghost use Rattle.bundle_json_form.specs.Plan.{content_of, plan};
-ghost use Rattle.bundle_json_form.specs.Texts.{AppendsContent, AppendsField, AppendsFirst, AppendsForm, AppendsObject, HasNoneIn, IsAfterFirst, IsFirstIn, context_text, counted, field_of_first, from};
+ghost use Rattle.bundle_json_form.specs.Texts.{AppendsContent, AppendsField, AppendsFirst, AppendsForm, AppendsObject, HasNoneIn, IsAfterFirst, IsFirstNode, context_text, depth_after, field_of_first, from};
 
 use crate::layout::Shape;
 use crate::plan::{Content, members_of};
 use crate::quoted::push_quoted;
-use bundle_tree_piece::{Node, Piece};
+use bundle_syntax::{Node, Piece};
 use std::alloc::{AllocError, Global};
 
 /// Puts the compact text of the JSON form of a tree behind a text, by the tree's pieces. Refused only
@@ -163,7 +163,7 @@ pub fn push_comma(out: &mut String, is_later: bool) -> Result<(), AllocError>
 // Where the first of the nodes in the field of a number begins.
 fn first_in(number: u8, pieces: &[Piece], at: usize) -> Option<usize>
     ensures found { IfSome result (λ child.
-        IsFirstIn number (from at pieces.now) (from child pieces.now)) }
+        IsFirstNode number (from at pieces.now) (from child pieces.now)) }
     ensures none { IfNone result (HasNoneIn number (from at pieces.now)) }
     ensures later { IfSome result (λ child. at ≤ child) }
 {
@@ -214,7 +214,7 @@ fn after_first(pieces: &[Piece], at: usize) -> usize
 // How many nodes are open behind a piece, where so many are before it.
 fn count(piece: &Piece, opened: usize) -> usize
     requires { opened + 1 < 2 ^ 64 }
-    ensures { result ≡ counted (item_of piece.now) opened }
+    ensures { result ≡ depth_after (item_of piece.now) opened }
 {
     match piece {
         Piece::Open { .. } => opened + 1,

@@ -2,14 +2,14 @@
 
 ghost use Rattle.std.specs.Prelude.{◌≡◌, [], map, option_map, OnOk, IfOk};
 ghost use Rattle.serde_json.specs.View.{view};
-ghost use Rattle.bundle_tree_piece.specs.Item.{head_of, item_of};
-ghost use Rattle.bundle_tree_piece.specs.declared.piece.Role.TheVariants.{Reference};
+ghost use Rattle.bundle_syntax.specs.Item.{head_of, item_of};
+ghost use Rattle.bundle_syntax.specs.declared.piece.Role.TheVariants.{Reference};
 ghost use Rattle.bundle_json_form.specs.Form.{written, ident, IsFormWritten};
-ghost use Rattle.bundle_json_form.specs.Writing.{child_of, frames, with_child, first_in, after_first_in, all_in, after_all_in, value_in, rest_in, node_form};
+ghost use Rattle.bundle_json_form.specs.Writing.{child_of, frames, with_child, first_child_in, after_first_in, all_in, after_all_in, value_in, rest_in, node_form};
 
 use crate::layout::{Field, Shape, fields_of, name_of};
 use crate::scalar::Object;
-use bundle_tree_piece::{Node, Piece};
+use bundle_syntax::{Node, Piece};
 use serde_json::Value;
 use std::alloc::{AllocError, Global};
 use std::collections::VecDeque;
@@ -63,13 +63,13 @@ pub fn tree_value(alloc: Global, pieces: &[Piece]) -> Result<Value, AllocError>
 }
 
 // Adds a value to the innermost of the open nodes.
-fn add(open: &mut Vec<OpenNode>, field: u8, value: Value) -> Result<(), AllocError>
+fn add(nodes: &mut Vec<OpenNode>, field: u8, value: Value) -> Result<(), AllocError>
     ensures { OnOk result
-        (frames open.new.items ≡ with_child (field, view value) (frames open.old.items)) }
+        (frames nodes.new.items ≡ with_child (field, view value) (frames nodes.old.items)) }
 {
-    if let Some(mut parent) = open.pop() {
+    if let Some(mut parent) = nodes.pop() {
         parent.children.push_back((field, value))?;
-        open.push(parent)?;
+        nodes.push(parent)?;
     }
     Ok(())
 }
@@ -130,7 +130,7 @@ fn field_value(
 
 // The first of the values, if it lies in the field.
 fn take(children: &mut VecDeque<(u8, Value)>, field: u8) -> Option<Value>
-    ensures value { option_map view result ≡ first_in field (map child_of children.old.items) }
+    ensures value { option_map view result ≡ first_child_in field (map child_of children.old.items) }
     ensures rest { map child_of children.new.items
         ≡ after_first_in field (map child_of children.old.items) }
 {

@@ -7,13 +7,13 @@ ghost use Rattle.json.specs.Value.{value_view};
 ghost use Rattle.bundle_tree_listed.specs.Tree.{module_items};
 ghost use Rattle.bundle_json_form.specs.Form.{top, IsForm};
 ghost use Rattle.bundle_json_form.specs.Plain.{seen};
-ghost use Rattle.bundle_json_text.specs.Text.{no_notes, IsTextOf, Reads};
+ghost use Rattle.bundle_json_text.specs.Text.{no_text_notes, IsModuleText, Reads};
 
 pub use bundle_json_form::FormError;
 use bundle_json_form::{read_module, tree_value};
 use bundle_tree_ast::{ExportMetadata, Module};
 use bundle_tree_list::pieces_of_module;
-use bundle_tree_restore::{BuildError, build_module};
+use bundle_tree_parse::{BuildError, build_module};
 use json::{Error, Scratch, Value};
 use std::alloc::{AllocError, Global};
 
@@ -49,8 +49,8 @@ fn module_of_value<'v, 'a>(
     value: &'v Value<'a>,
     notes: &'a ExportMetadata,
 ) -> Result<Module, FormError>
-    requires { notes.now ≡ no_notes }
-    ensures { IfOk result (λ it. IsForm no_notes top (seen value.now) (module_items 0 it)) }
+    requires { notes.now ≡ no_text_notes }
+    ensures { IfOk result (λ it. IsForm no_text_notes top (seen value.now) (module_items 0 it)) }
 {
     let pieces = read_module(alloc, value, notes)?;
     match build_module(alloc, pieces.as_slice()) {
@@ -61,10 +61,10 @@ fn module_of_value<'v, 'a>(
 }
 
 /// The JSON text of a module, with every field and keys in ascending order. Refused only for memory.
-pub fn module_text(alloc: Global, module: &Module) -> Result<String, AllocError>
-    ensures { IfOk result (λ text. IsTextOf «module».now (string_bytes text)) }
+pub fn module_text(alloc: Global, tree: &Module) -> Result<String, AllocError>
+    ensures { IfOk result (λ text. IsModuleText tree.now (string_bytes text)) }
 {
-    let pieces = pieces_of_module(alloc, module)?;
+    let pieces = pieces_of_module(alloc, tree)?;
     let form = tree_value(alloc, pieces.as_slice())?;
     let text = form.to_string(alloc)?;
     Ok(text)

@@ -1,12 +1,13 @@
 -- What is read of a tree is read of it cleared too: so it is the table of a module whose tree is kept cleared.
-use Rattle.std.proofs.Common.{◌≡◌, ℕ, true, List, Contains, map, sym, ap, ◌∙◌}
+-- The file of a module is among the files of all.
+use Rattle.std.proofs.Common.{◌≡◌, ℕ, true, List, Contains, map, sym, ap, ◌∙◌, Some, slice_get}
 use Rattle.std.specs.Prelude.{codes, filter, not}
 use Rattle.std.specs.List.{flat_map}
+use Rattle.std.specs.Option.{option_map}
+use Rattle.std.proofs.lemmas.Option.{slice_get-map, slice_get_within, get_or_from_slice_get}
 use Rattle.bundle_tree_names.specs.FileName.{Name}
 use Rattle.bundle_tree_names.specs.declared.config.Config.{Config}
-use Rattle.bundle_tree_piece.specs.Item.{Item}
-use Rattle.bundle_link_tables.specs.Sources.{told_external}
-use Rattle.bundle_link_tables.specs.declared.table.Tables.{Tables}
+use Rattle.bundle_syntax.specs.Item.{Item}
 use Rattle.bundle_rules.specs.Nodes.{Text, each_once}
 use Rattle.bundle_rules.specs.Entries.{ExportEntry, exports_of, is_named}
 use Rattle.bundle_rules.specs.Faults.{IsFaultless}
@@ -17,12 +18,15 @@ use Rattle.bundle_rules.proofs.EntryLemmas.{imports_of-cleared, exports_of-clear
 use Rattle.bundle_rules.proofs.CallLemmas as calls
 use Rattle.bundle_rules.proofs.CallLemmas.{has_free-cleared, linked_calls-cleared, is_script-cleared, awaits_outside-cleared}
 use Rattle.bundle_rules.proofs.FaultLemmas as faults
-use Rattle.bundle_link_reached.proofs.ClearedUses.{uses_of-cleared, uses_common_js-cleared}
+use Rattle.bundle_link_tables.specs.Sources.{told_external}
+use Rattle.bundle_link_tables.specs.declared.table.Tables.{Tables}
 use Rattle.bundle_link_index.specs.Programs.{IsTableOf}
+use Rattle.bundle_link.proofs.OrderLemmas.{uses_of-cleared, uses_common_js-cleared}
 use Rattle.bundle_link.specs.Read.{AreTablesOf}
 use Rattle.bundle_link.specs.Refusals.{Links}
-use Rattle.bundle_link.proofs.OnceLemmas.{each_once_of}
-use Rattle.bundle_link.proofs.ProgramLemmas.{table_of}
+use Rattle.bundle_link.proofs.ProgramLemmas.{each_once_of, table_of}
+
+-- ---- cleared tables
 
 -- the tables of a tree are those of the cleared tree
 pub cleared-tables : (config : Config) (file : Name) (tree : List Item) (tables : Tables) → AreTablesOf config file tree tables → AreTablesOf config file (cleared tree) tables
@@ -49,3 +53,11 @@ cleared-table p m config file tree tables links is read = table_of p m config fi
 -- a cleared tree whose tree has no fault has no two exports of one name
 pub cleared-once : (file : Name) (tree : List Item) → IsFaultless file tree → (x : Text) (a b : ExportEntry) → Contains (exports_of (cleared tree)) a → Contains (exports_of (cleared tree)) b → is_named x a ≡ true → is_named x b ≡ true → a ≡ b
 cleared-once file tree none = each_once_of file (cleared tree) (faults.faultless file tree none)
+
+-- ---- file
+
+-- what is made of an element stands among what is made of all
+pub at_place : {A B : Type 0} (f : A → B) (xs : List A) (i : ℕ) (x : A) → slice_get xs i ≡ Some x → Contains (map f xs) (f x)
+at_place f xs i x e =
+    let there = slice_get-map f xs i ∙ ap (option_map f) e in
+    (i, slice_get_within (map f xs) i (f x) there, get_or_from_slice_get (map f xs) i (f x) (f x) there)

@@ -3,7 +3,7 @@
 use Rattle.std.proofs.Common.{◌≡◌, ℕ, zero, suc, List, [], ◌∷◌, ◌++◌, Option, Some, refl, sym, subst, arith, lit<, true≢false}
 use Rattle.std.specs.Prelude.{codes, Contains}
 use Rattle.std.proofs.lemmas.Option.{none-some}
-use Rattle.bundle_tree_piece.specs.Item.{Item}
+use Rattle.bundle_syntax.specs.Item.{Item}
 use Rattle.bundle_order_graph.specs.Walks.{itself, along}
 use Rattle.bundle_rules.specs.Places.{Around}
 use Rattle.bundle_rules.specs.Nodes.{Text}
@@ -18,7 +18,7 @@ use Rattle.bundle_rules.specs.Meaning.{Of, is_es, IsMeant, IsLeft, by_statement,
 use Rattle.bundle_rules.proofs.Trees.{exports_all, exports_default, imports_all, imports_bare, number}
 use Rattle.bundle_rules.proofs.Programs.{program}
 use Rattle.bundle_link_tables.specs.Used.{UseEntry, uses_of}
-use Rattle.bundle_link_targets.specs.Meant.{IsTaken, by_use, by_entry, by_names}
+use Rattle.bundle_link_targets.specs.Meant.{IsTargetTaken, by_use, by_entry, by_names}
 
 -- main: `import './a'; export * from 'ext';`    a: `import * as default from './main'; export default 1;`
 abbrev one : List Item
@@ -81,7 +81,7 @@ gives_nothing m x t origin is (starred {d = d} {s = s} no_own other stands sourc
     no_module : (d : ℕ) → resolves p 0 (codes "ext") ≡ Some d → ⊥
     no_module d e = absurd (none-some d e)
 
-pub is_not_taken : (t : Target) → IsTaken p t → ⊥
+pub is_not_taken : (t : Target) → IsTargetTaken p t → ⊥
 is_not_taken t (by_use {m = m} {its = its} reached there means) = no_such its (subst (λ (l : List UseEntry). Contains l its) (no_use m) there)
 is_not_taken t (by_entry {x = x} linked) = gives_nothing 0 x t linked.origin refl linked.given
 is_not_taken t (by_names {d = d} more linked) = is_not_taken (Namespace d) more

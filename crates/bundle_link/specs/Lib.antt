@@ -1,3 +1,16 @@
+pub mod Alike
+pub mod Graph
+pub mod Leads
+pub mod Linked
+pub mod Told
+pub mod Numbered
+pub mod Resolutions
+pub mod First
+pub mod Files
+pub mod Reached
+pub mod Judged
+pub mod Nested
+pub mod Default
 pub mod Owned
 pub mod Programs
 pub mod Read

@@ -3,9 +3,9 @@ use Rattle.std.specs.Prelude.{◌≡◌, List, codes, filter, map, not}
 use Rattle.std.specs.List.{flat_map}
 use Rattle.bundle_tree_names.specs.FileName.{Name}
 use Rattle.bundle_tree_names.specs.declared.config.Config.{Config}
-use Rattle.bundle_tree_piece.specs.Item.{Item}
+use Rattle.bundle_syntax.specs.Item.{Item}
 use Rattle.bundle_link_tables.specs.declared.table.Tables.{Tables}
-use Rattle.bundle_link_tables.specs.Sources.{asked, told_external}
+use Rattle.bundle_link_tables.specs.Sources.{source_asked, told_external}
 use Rattle.bundle_link_tables.specs.Used.{use_entry_of, uses_of}
 use Rattle.bundle_link_tables.specs.TablesOf.{asked_name_of, call_entry_of, export_entry_of, import_entry_of, uses_common_js}
 use Rattle.bundle_rules.specs.Awaits.{awaits_outside}
@@ -27,7 +27,7 @@ pub record AreTablesOf (config : Config) (file : Name) (tree : List Item) (table
   pub stars : map (λ star. star.now) tables.stars.items ≡ each_once (flat_map star_of (exports_of tree))
   pub sources : (settings : Settings) →
       Links config settings →
-      map asked tables.sources.items ≡ map (told_external settings.external) (declared_requests tree)
+      map source_asked tables.sources.items ≡ map (told_external settings.external) (declared_requests tree)
   pub calls : (settings : Settings) →
       Links config settings →
       map call_entry_of tables.calls.items ≡ linked_calls settings (is_free tree) tree

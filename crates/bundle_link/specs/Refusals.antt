@@ -4,7 +4,7 @@ use Rattle.bundle_tree_names.specs.FileName.{Name, name_of}
 use Rattle.bundle_tree_names.specs.declared.config.Config.{Config}
 use Rattle.bundle_tree_names.specs.declared.error.Error.{Error}
 use Rattle.bundle_tree_names.specs.declared.error.Error.TheVariants as e
-use Rattle.bundle_tree_piece.specs.Item.{Item}
+use Rattle.bundle_syntax.specs.Item.{Item}
 use Rattle.bundle_tree_listed.specs.Tree.{module_items}
 use Rattle.bundle_rules.specs.Entries.{Settings}
 use Rattle.bundle_rules.specs.Faults.{fault_of, IsFirstTreeFault}
@@ -38,5 +38,5 @@ abbrev pub IsRefusalOfOne : List TransformedModule → Error → Type 0
 IsRefusalOfOne modules error = (error ≡ e.OutOfMemory) ⊎ ((m : TransformedModule) × Contains modules m × IsTreeRefusal (name_of m.file_name) (module_items 0 m.tree.now) error)
 
 -- the files of modules
-abbrev pub files_of : List TransformedModule → List Name
-files_of modules = map (λ m. name_of m.file_name) modules
+abbrev pub module_files : List TransformedModule → List Name
+module_files modules = map (λ m. name_of m.file_name) modules

@@ -7,8 +7,8 @@ ghost use Rattle.bundle_link_targets.specs.Judged.{fault_says};
 ghost use Rattle.bundle_rules.specs.Faults.{fault_of};
 ghost use Rattle.bundle_link.specs.Refusals.{IsLinkRefusal};
 
-use bundle_link_tables::TreeFault;
-use bundle_link_targets::{Fault, FaultKind};
+use bundle_link_tables::FileFault;
+use bundle_link_targets::{FaultKind, LinkFault};
 use bundle_tree_names::{Error, FileName};
 use std::alloc::{AllocError, Global};
 
@@ -16,22 +16,22 @@ use std::alloc::{AllocError, Global};
 pub(crate) fn tree_refusal<'a>(
     alloc: Global,
     file: &FileName,
-    fault: TreeFault<'a>,
+    fault: FileFault<'a>,
 ) -> Result<Error, AllocError>
     ensures { IfOk result (λ refusal.
         fault_of refusal ≡ Some (fault_in (name_of file.now) fault.entry)) }
 {
     let file = file.clone()?;
     Ok(match fault {
-        TreeFault::DoubledExport { name } => Error::DoubledExport {
+        FileFault::DoubledExport { name } => Error::DoubledExport {
             file,
             name: String::from_str(alloc, name)?,
         },
-        TreeFault::UndeclaredExport { name } => Error::UndeclaredExport {
+        FileFault::UndeclaredExport { name } => Error::UndeclaredExport {
             file,
             name: String::from_str(alloc, name)?,
         },
-        TreeFault::With => Error::With { file },
+        FileFault::With => Error::With { file },
     })
 }
 
@@ -39,7 +39,7 @@ pub(crate) fn tree_refusal<'a>(
 pub(crate) fn link_refusal<'a>(
     alloc: Global,
     file: &FileName,
-    fault: Fault<'a>,
+    fault: LinkFault<'a>,
 ) -> Result<Error, AllocError>
     ensures named { IfOk result (λ refusal.
         (files : List Name) → Contains files (name_of file.now) → IsLinkRefusal files refusal) }

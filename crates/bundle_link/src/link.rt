@@ -4,33 +4,33 @@ ghost use Rattle.std.specs.Prelude.{◌≡◌, ◌-◌, ℕ, Contains, IfErr, If
 ghost use Rattle.std.specs.List.{AllZip};
 ghost use Rattle.indexmap.specs.IndexSet.{contains, index_of_by};
 ghost use Rattle.bundle_tree_names.specs.FileName.{name_of};
-ghost use Rattle.bundle_tree_piece.specs.Item.{item_of};
-ghost use Rattle.bundle_link_reached.specs.Linked.{IsLinkedOf};
+ghost use Rattle.bundle_syntax.specs.Item.{item_of};
+ghost use Rattle.bundle_link.specs.Linked.{IsLinkedOf};
 ghost use Rattle.bundle_rules.specs.Program.{Program};
 ghost use Rattle.bundle_rules.specs.Tables.{IsChecked, IsResolution, TellsCommonJs, TellsMeant};
 ghost use Rattle.bundle_rules.specs.Entries.{has_import_meta};
-ghost use Rattle.bundle_link_index.specs.Programs.{IsProgramOf};
+ghost use Rattle.bundle_link_index.specs.Programs.{IsLinkProgram};
 ghost use Rattle.bundle_link_targets.specs.Linked.{HandsOver, IsJudgedBy, IsLinkingOf};
 ghost use Rattle.bundle_link_targets.specs.Meant.{DeclaresDefaultOnce};
-ghost use Rattle.bundle_link_reached.specs.Judged.{numbers_below};
+ghost use Rattle.bundle_link.specs.Judged.{numbers_below};
 ghost use Rattle.bundle_link.specs.Checked.{TellsLinkFault};
-ghost use Rattle.bundle_link.specs.Programs.{AreFaultless, AreModulesOf, HasTables, IsLinkerOf, is_call, numbers};
+ghost use Rattle.bundle_link.specs.Programs.{AreModulesFaultless, AreTransformedOf, HasTables, IsLinkerOf, is_one_call, module_numbers};
 ghost use Rattle.bundle_rules.specs.Nodes.{numbers_once};
 ghost use Rattle.bundle_link.specs.Resolved.{resolution_says};
 ghost use Rattle.bundle_link.specs.Read.{AreTablesOf};
-ghost use Rattle.bundle_link.specs.Refusals.{IsLinkRefusal, IsRefusalOfOne, IsTreeRefusal, files_of};
+ghost use Rattle.bundle_link.specs.Refusals.{IsLinkRefusal, IsRefusalOfOne, IsTreeRefusal, module_files};
 
 use crate::fault::link_refusal;
 use crate::tables::{read, read_list};
 use crate::target::resolution_of;
 pub use crate::target::{Resolution, Target};
 pub use crate::transformed::TransformedModule;
-use bundle_link_reached::{LinkedModules, NumberedModule};
+use crate::{LinkedModules, NumberedModule};
 use bundle_link_tables::Tables;
 use bundle_link_targets::{LinkModule, Linking, Setting};
 use bundle_order_graph::graph::ModuleGraph;
+use bundle_syntax::Piece;
 use bundle_tree_names::{Config, Error, FileName, ModuleId, ModuleType};
-use bundle_tree_piece::Piece;
 use std::alloc::{AllocError, Global};
 
 /// Tells what each name of the modules of a bundle stands for, which of the modules are CommonJS, and what is wrong
@@ -58,7 +58,7 @@ impl<'a> Linker<'a> {
         ensures modules { IfOk result (λ linker. linker.modules ≡ modules.entry) }
         ensures entry { IfOk result (λ linker. linker.entry ≡ entry) }
         ensures linked { IfOk result (λ linker. (p : Program) →
-            AreModulesOf p modules.entry.items config.now entry → IsLinkerOf p linker) }
+            AreTransformedOf p modules.entry.items config.now entry → IsLinkerOf p linker) }
         ensures refused { IfErr result (IsRefusalOfOne modules.entry.items) }
     {
         let linked = linked_modules(alloc, entry, &modules, config)?;
@@ -119,16 +119,16 @@ impl<'a> Linker<'a> {
     /// places of the list, and the last is the entry.
     pub fn linking_of<'x>(&self, modules: &[LinkModule<'_, 'x>]) -> Result<Linking<'x>, AllocError>
         ensures linked { IfOk result (λ linking. (q : Program) →
-            IsProgramOf q modules.now (numbers_below (length modules.now))
+            IsLinkProgram q modules.now (numbers_below (length modules.now))
             (length modules.now - 1) self.now.config.require
             → IsLinkingOf q linking) }
         ensures judged { IfOk result (λ linking. (q : Program) →
-            IsProgramOf q modules.now (numbers_below (length modules.now))
+            IsLinkProgram q modules.now (numbers_below (length modules.now))
             (length modules.now - 1) self.now.config.require
-            → q.settings.iife ≡ is_call self.now.config.«module»
+            → q.settings.iife ≡ is_one_call self.now.config.module
             → IsJudgedBy q (numbers_below (length modules.now)) linking) }
         ensures handed { IfOk result (λ linking. (q : Program) →
-            IsProgramOf q modules.now (numbers_below (length modules.now))
+            IsLinkProgram q modules.now (numbers_below (length modules.now))
             (length modules.now - 1) self.now.config.require
             → HandsOver q (numbers_below (length modules.now)) linking) }
     {
@@ -177,14 +177,14 @@ impl<'a> Linker<'a> {
     /// module the first of a kind in the order of the source. Whose objects are meant is as
     /// `should_be_wrapped_with_a_fn` tells.
     pub fn check(&self) -> Result<(), Error>
-        ensures refused { IfErr result (IsLinkRefusal (files_of self.now.modules.items)) }
+        ensures refused { IfErr result (IsLinkRefusal (module_files self.now.modules.items)) }
         ensures told { (p : Program) → IsLinkerOf p self.now → DeclaresDefaultOnce p →
             MatchResult result (λ done. IsChecked p None) (TellsLinkFault p) }
     {
         let Some(fault) = self.linked.fault() else {
             return Ok(());
         };
-        match self.modules.get(fault.module) {
+        match self.modules.get(fault.which) {
             Some(module) => Err(link_refusal(self.alloc, &module.file_name, fault)?),
             None => Ok(()),
         }
@@ -194,7 +194,7 @@ impl<'a> Linker<'a> {
 /// How modules are linked, by a configuration.
 pub fn setting_of(config: &Config) -> Setting
     ensures require { result.require ≡ config.now.require }
-    ensures iife { result.iife ≡ is_call config.now.«module» }
+    ensures iife { result.iife ≡ is_one_call config.now.module }
 {
     let iife = match config.module {
         ModuleType::Es => false,
@@ -214,9 +214,9 @@ fn linked_modules<'a>(
     config: &Config,
 ) -> Result<LinkedModules<'a>, Error>
     ensures linked { IfOk result (λ linked. (p : Program) →
-        AreModulesOf p modules.now config.now entry → IsLinkedOf p linked) }
-    ensures ids { IfOk result (λ linked. linked.ids.keys ≡ numbers_once (numbers modules.now)) }
-    ensures faultless { IfOk result (λ linked. AreFaultless modules.now) }
+        AreTransformedOf p modules.now config.now entry → IsLinkedOf p linked) }
+    ensures ids { IfOk result (λ linked. linked.ids.keys ≡ numbers_once (module_numbers modules.now)) }
+    ensures faultless { IfOk result (λ linked. AreModulesFaultless modules.now) }
     ensures refused { IfErr result (IsRefusalOfOne modules.now) }
 {
     let tables = tables_of_all(alloc, modules, config)?;
@@ -268,7 +268,7 @@ fn tables_of_all<'a>(
 // The settings, once more.
 fn copied(alloc: Global, config: &Config) -> Result<Config, AllocError>
     ensures require { IfOk result (λ copy. copy.require ≡ config.now.require) }
-    ensures module { IfOk result (λ copy. copy.«module» ≡ config.now.«module») }
+    ensures which { IfOk result (λ copy. copy.module ≡ config.now.module) }
     ensures external { IfOk result (λ copy.
         map (λ text. string_bytes text) copy.external_modules.items
         ≡ map (λ text. string_bytes text) config.now.external_modules.items) }
@@ -278,10 +278,10 @@ fn copied(alloc: Global, config: &Config) -> Result<Config, AllocError>
         external_modules.push(specifier.clone()?)?;
     }
     Ok(Config {
+        module: config.module,
         require: config.require,
         disable_hygiene: config.disable_hygiene,
         external_modules,
-        module: config.module,
         max_modules: config.max_modules,
     })
 }

@@ -5,9 +5,9 @@
 
 ghost use Rattle.std.specs.Prelude.{◌≡◌, ◌++◌, ◌∷◌, [], IfOk, IfErr, OnOk, None, false, map, string_bytes};
 ghost use Rattle.bundle_tree_names.specs.FileName.{name_of};
-ghost use Rattle.bundle_tree_piece.specs.Item.{item_of};
+ghost use Rattle.bundle_syntax.specs.Item.{item_of};
 ghost use Rattle.bundle_tree_listed.specs.Tree.{module_items};
-ghost use Rattle.bundle_link_tables.specs.Judged.{doubled_name};
+ghost use Rattle.bundle_link_tables.specs.Judged.{doubled_entry_name};
 ghost use Rattle.bundle_link_tables.specs.TablesOf.{entry_by_origin, export_entry_of, import_entry_of, taken_of};
 ghost use Rattle.bundle_rules.specs.Bound.{is_free};
 ghost use Rattle.bundle_rules.specs.Entries as the_entries;
@@ -21,12 +21,14 @@ ghost use Rattle.bundle_link.specs.Read.{AreTablesOf};
 ghost use Rattle.bundle_link.specs.Refusals.{IsTreeRefusal, Links};
 
 use crate::fault::tree_refusal;
-use bundle_link_tables::{Export, Import as Read, Origin, Tables, Taken, requests_in, tables_of};
+use bundle_link_tables::{
+    Export, ImportRef as Read, Origin, Tables, Taken, requests_in, tables_of,
+};
 use bundle_scope_denote::{ModuleKind, Reading, denotations};
+use bundle_syntax::Piece;
 use bundle_tree_ast::Module;
 use bundle_tree_list::pieces_of_module;
 use bundle_tree_names::{Config, Error, FileName};
-use bundle_tree_piece::Piece;
 use indexmap::IndexMap;
 use std::alloc::{AllocError, Global};
 
@@ -69,18 +71,18 @@ pub struct Exports {
 pub fn requests_of(
     alloc: Global,
     file: &FileName,
-    module: &Module,
+    tree: &Module,
     config: &Config,
 ) -> Result<Vec<String>, Error>
     ensures refused { IfErr result
-        (IsTreeRefusal (name_of file.now) (module_items 0 «module».now)) }
+        (IsTreeRefusal (name_of file.now) (module_items 0 tree.now)) }
     ensures given { IfOk result (λ requests.
         (settings : Settings) →
         Links config.now settings →
-        IsRequestTable settings (name_of file.now) (module_items 0 «module».now)
+        IsRequestTable settings (name_of file.now) (module_items 0 tree.now)
         (t.Given (map (λ text. string_bytes text) requests.items))) }
 {
-    let pieces = pieces_of_module(alloc, module)?;
+    let pieces = pieces_of_module(alloc, tree)?;
     let requests = requested(alloc, file, &pieces, config)?;
     Ok(owned_texts(alloc, &requests)?)
 }
@@ -89,16 +91,16 @@ pub fn requests_of(
 pub fn imports_of(
     alloc: Global,
     file: &FileName,
-    module: &Module,
+    tree: &Module,
     config: &Config,
 ) -> Result<Vec<Import>, Error>
     ensures refused { IfErr result
-        (IsTreeRefusal (name_of file.now) (module_items 0 «module».now)) }
+        (IsTreeRefusal (name_of file.now) (module_items 0 tree.now)) }
     ensures given { IfOk result (λ imports.
-        IsImportTable (name_of file.now) (module_items 0 «module».now)
+        IsImportTable (name_of file.now) (module_items 0 tree.now)
         (t.Given (map import_says imports.items))) }
 {
-    let tables = read(alloc, file, module, config)?;
+    let tables = read(alloc, file, tree, config)?;
     Ok(owned_imports(alloc, &tables.imports)?)
 }
 
@@ -106,16 +108,16 @@ pub fn imports_of(
 pub fn exports_of(
     alloc: Global,
     file: &FileName,
-    module: &Module,
+    tree: &Module,
     config: &Config,
 ) -> Result<Exports, Error>
     ensures refused { IfErr result
-        (IsTreeRefusal (name_of file.now) (module_items 0 «module».now)) }
+        (IsTreeRefusal (name_of file.now) (module_items 0 tree.now)) }
     ensures given { IfOk result (λ exports.
-        IsExportTable (name_of file.now) (module_items 0 «module».now)
+        IsExportTable (name_of file.now) (module_items 0 tree.now)
         (t.Given (exports_say exports))) }
 {
-    let tables = read(alloc, file, module, config)?;
+    let tables = read(alloc, file, tree, config)?;
     Ok(owned_exports(alloc, &tables)?)
 }
 
@@ -123,15 +125,15 @@ pub fn exports_of(
 pub(crate) fn read<'a>(
     alloc: Global,
     file: &FileName,
-    module: &'a Module,
+    tree: &'a Module,
     config: &Config,
 ) -> Result<Tables<'a>, Error>
     ensures refused { IfErr result
-        (IsTreeRefusal (name_of file.now) (module_items 0 «module».now)) }
+        (IsTreeRefusal (name_of file.now) (module_items 0 tree.now)) }
     ensures given { IfOk result
-        (AreTablesOf config.now (name_of file.now) (module_items 0 «module».now)) }
+        (AreTablesOf config.now (name_of file.now) (module_items 0 tree.now)) }
 {
-    let pieces = pieces_of_module(alloc, module)?;
+    let pieces = pieces_of_module(alloc, tree)?;
     read_list(alloc, file, &pieces, config)
 }
 
@@ -230,7 +232,7 @@ fn import_name<'a>(alloc: Global, taken: Taken<'a>) -> Result<ImportName, AllocE
 // The exports, with texts of their own.
 fn owned_exports<'a>(alloc: Global, tables: &Tables<'a>) -> Result<Exports, AllocError>
     ensures items { IfOk result (λ owned.
-        doubled_name [] (map export_entry_of tables.now.exports.items) ≡ None →
+        doubled_entry_name [] (map export_entry_of tables.now.exports.items) ≡ None →
         map entry_says owned.items.entries ≡ map export_entry_of tables.now.exports.items) }
     ensures stars { IfOk result (λ owned.
         map (λ text. string_bytes text) owned.stars.items
@@ -246,7 +248,7 @@ fn owned_items<'a>(
     alloc: Global,
     exports: &[Export<'a>],
 ) -> Result<IndexMap<String, ExportEntry>, AllocError>
-    ensures { IfOk result (λ items. doubled_name [] (map export_entry_of exports.now) ≡ None →
+    ensures { IfOk result (λ items. doubled_entry_name [] (map export_entry_of exports.now) ≡ None →
         map entry_says items.entries ≡ map export_entry_of exports.now) }
 {
     let mut items = IndexMap::new(alloc);

@@ -3,7 +3,7 @@
 ghost use Rattle.std.specs.Prelude.{◌≡◌, IfOk, option_map, slice_get};
 ghost use Rattle.bundle_rules.specs.Linking.{Declared};
 ghost use Rattle.bundle_link_tables.specs.TablesOf.{taken_of};
-ghost use Rattle.bundle_link_reached.specs.Resolved.{common_js, one, resolution_read, target_read, two};
+ghost use Rattle.bundle_link.specs.Resolutions.{common_js, single_target, resolution_read, target_read, two};
 ghost use Rattle.bundle_link.specs.Resolved.{resolution_says, taken_says, target_says};
 
 use bundle_link_tables::Taken;
@@ -43,26 +43,26 @@ pub enum Resolution {
 pub(crate) fn resolution_of<'a>(
     alloc: Global,
     ids: &IndexSet<ModuleId>,
-    found: places::Resolution<'a>,
+    found: places::ResolvedTo<'a>,
 ) -> Result<Resolution, AllocError>
     ensures { IfOk result (λ resolution.
         resolution_says resolution ≡ resolution_read ids.now.keys found.entry) }
 {
     match found {
-        places::Resolution::One(target) => one_target(alloc, ids, target),
-        places::Resolution::Two(first, second) => two_targets(alloc, ids, first, second),
-        places::Resolution::None => Ok(Resolution::None),
-        places::Resolution::ExternalStar => Ok(Resolution::ExternalStar),
+        places::ResolvedTo::One(target) => one_target(alloc, ids, target),
+        places::ResolvedTo::Two(first, second) => two_targets(alloc, ids, first, second),
+        places::ResolvedTo::None => Ok(Resolution::None),
+        places::ResolvedTo::ExternalStar => Ok(Resolution::ExternalStar),
     }
 }
 
 fn one_target<'a>(
     alloc: Global,
     ids: &IndexSet<ModuleId>,
-    target: places::Target<'a>,
+    target: places::TargetRef<'a>,
 ) -> Result<Resolution, AllocError>
     ensures { IfOk result (λ resolution.
-        resolution_says resolution ≡ one (target_read ids.now.keys target.entry)) }
+        resolution_says resolution ≡ single_target (target_read ids.now.keys target.entry)) }
 {
     Ok(match target_of(alloc, ids, target)? {
         Some(target) => Resolution::One(target),
@@ -73,8 +73,8 @@ fn one_target<'a>(
 fn two_targets<'a>(
     alloc: Global,
     ids: &IndexSet<ModuleId>,
-    first: places::Target<'a>,
-    second: places::Target<'a>,
+    first: places::TargetRef<'a>,
+    second: places::TargetRef<'a>,
 ) -> Result<Resolution, AllocError>
     ensures { IfOk result (λ resolution.
         resolution_says resolution
@@ -92,27 +92,27 @@ fn two_targets<'a>(
 fn target_of<'a>(
     alloc: Global,
     ids: &IndexSet<ModuleId>,
-    target: places::Target<'a>,
+    target: places::TargetRef<'a>,
 ) -> Result<Option<Target>, AllocError>
     ensures { IfOk result (λ answer.
         option_map target_says answer ≡ target_read ids.now.keys target.entry) }
 {
     match target {
-        places::Target::Declared { module, name } => declared(alloc, id_at(ids, module), name),
-        places::Target::Namespace { module } => Ok(match id_at(ids, module) {
+        places::TargetRef::Declared { which, name } => declared(alloc, id_at(ids, which), name),
+        places::TargetRef::Namespace { which } => Ok(match id_at(ids, which) {
             Some(id) => Some(Target::Namespace(id)),
             None => None,
         }),
-        places::Target::External { specifier, taken } => {
+        places::TargetRef::External { specifier, taken } => {
             let specifier = String::from_str(alloc, specifier)?;
             let name = name_in(alloc, taken)?;
             Ok(Some(Target::External(specifier, name)))
         }
-        places::Target::CommonJs {
+        places::TargetRef::CommonJs {
             taker,
-            module,
+            which,
             taken,
-        } => common_js_of(alloc, id_at(ids, taker), id_at(ids, module), taken),
+        } => common_js_of(alloc, id_at(ids, taker), id_at(ids, which), taken),
     }
 }
 

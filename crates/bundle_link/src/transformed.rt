@@ -27,14 +27,14 @@ impl<'a> TransformedModule<'a> {
         id: ModuleId,
         local_ctxt: SyntaxContext,
         export_ctxt: SyntaxContext,
-        module: &'a Module,
+        tree: &'a Module,
         deps: Vec<(String, ModuleId)>,
     ) -> TransformedModule<'a>
         ensures file { result.file_name ≡ file_name }
         ensures id { result.id ≡ id }
         ensures local { result.local_ctxt ≡ local_ctxt }
         ensures exported { result.export_ctxt ≡ export_ctxt }
-        ensures tree { result.tree ≡ «module».entry }
+        ensures tree { result.tree ≡ tree.entry }
         ensures deps { result.deps ≡ deps }
     {
         TransformedModule {
@@ -42,7 +42,7 @@ impl<'a> TransformedModule<'a> {
             id,
             local_ctxt,
             export_ctxt,
-            tree: module,
+            tree,
             deps,
         }
     }

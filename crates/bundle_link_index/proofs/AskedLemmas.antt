@@ -1,13 +1,13 @@
 -- What imports and exports ask for stands among the requests of the declarations.
-use Rattle.std.proofs.Common.{◌≡◌, ◌⊎◌, inl, inr, ℕ, zero, suc, Bool, true, false, List, [], ◌∷◌, ◌++◌, Option, Some, None, Contains, map, refl, sym, ap, ◌∙◌, subst, if◌then◌else◌, cond, arith}
+use Rattle.std.proofs.Common.{◌≡◌, ◌⊎◌, inl, inr, zero, suc, Bool, true, false, List, [], ◌∷◌, Option, Some, None, Contains, map, refl, sym, ap, subst, if◌then◌else◌, cond, arith}
 use Rattle.std.specs.Prelude.{bytes_eq, find, flat_map}
 use Rattle.std.proofs.lemmas.List.Elements.{Contains-append_left, Contains-append_right, Contains-append_cases}
 use Rattle.std.proofs.lemmas.Option.{none-some, same_Some}
-use Rattle.bundle_tree_piece.specs.Item as h
-use Rattle.bundle_tree_piece.specs.Item.{Item, Head}
-use Rattle.bundle_rules.specs.Nodes.{Text, begins_with, child, in_field, string_of}
-use Rattle.bundle_rules.specs.Statements.{TopItem, top_items, default_name}
-use Rattle.bundle_rules.specs.Entries.{Taken, Named, Whole, ImportEntry, ExportEntry, Local, Indirect, Star, import_entry, imports_by, imports_of_item, imports_of, import_of, export_of, entry_from, entry_here, entries_of_list, exports_by, exports_of_item, exports_of, given_on, names_declared, text_in, renamed_text, requests_by, requests_of_item, declared_requests}
+use Rattle.bundle_syntax.specs.Item as h
+use Rattle.bundle_syntax.specs.Item.{Item, Head}
+use Rattle.bundle_rules.specs.Nodes.{Text, child, in_field, string_of}
+use Rattle.bundle_rules.specs.Statements.{top_items}
+use Rattle.bundle_rules.specs.Entries.{Taken, Named, Whole, ImportEntry, Local, Indirect, Star, import_entry, imports_by, imports_of_item, imports_of, import_of, export_of, entry_from, entry_here, entries_of_list, exports_by, exports_of_item, exports_of, given_on, names_declared, text_in, requests_by, requests_of_item, declared_requests}
 
 -- ---- elements of lists
 pub flat_back : {A B : Type 0} (f : A → List B) (xs : List A) (y : B) → Contains (flat_map f xs) y → (x : A) × Contains xs x × Contains (f x) y
@@ -31,10 +31,10 @@ pub only_one : {A : Type 0} (a x : A) → Contains (a ∷ []) x → a ≡ x
 only_one a x (zero, l, e) = e
 only_one a x (suc i, l, e) = absurd (omega arith)
 
-none_there : {A B : Type 0} (x : A) → Contains [] x → B
+pub none_there : {A B : Type 0} (x : A) → Contains [] x → B
 none_there x (i, l, e) = absurd (omega arith)
 
-found : {A : Type 0} (test : A → Bool) (xs : List A) (a : A) → find test xs ≡ Some a → Contains xs a
+pub found : {A : Type 0} (test : A → Bool) (xs : List A) (a : A) → find test xs ≡ Some a → Contains xs a
 found test [] a e = absurd (none-some a e)
 found {A = A} test (x ∷ xs) a e = by (test x) e (found test xs a)
   where

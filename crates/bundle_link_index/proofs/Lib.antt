@@ -1,12 +1,8 @@
+pub mod SearchLemmas
+pub mod ReachLemmas
 pub mod LinkedLemmas
-pub mod StarLemmas
-pub mod KindLemmas
-pub mod SaidLemmas
+pub mod OutsideLemmas
+pub mod ProgramLemmas
 pub mod NumberedLemmas
 pub mod EqualLemmas
-pub mod ProgramLemmas
-pub mod FoundLemmas
 pub mod AskedLemmas
-pub mod HandedLemmas
-pub mod OutsideLemmas
-pub mod StarredLemmas

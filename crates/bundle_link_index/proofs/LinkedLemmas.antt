@@ -1,17 +1,24 @@
 -- What is given in a program is what is given by numbers, and so an answer by numbers tells what a name is linked to.
-use Rattle.std.proofs.Common.{◌⊎◌, ◌≡◌, ◌≢◌, ℕ, true, List, Option, Some, sym, ap, ◌∙◌, subst}
+-- Where chains of stars lead, by numbers and in the program.
+use Rattle.std.proofs.Common.{◌⊎◌, ◌≡◌, ◌≢◌, ℕ, true, List, Option, Some, sym, ap, ◌∙◌, subst, ◌↔◌}
 use Rattle.std.specs.Prelude.{slice_get}
 use Rattle.std.proofs.lemmas.Option.{same_Some}
+use Rattle.bundle_order_graph.specs.Walks.{Reaches, itself as itself_starred, along}
 use Rattle.bundle_rules.specs.Nodes.{Text}
 use Rattle.bundle_rules.specs.Statements.{default_name}
 use Rattle.bundle_rules.specs.Entries.{has_own_entry}
 use Rattle.bundle_rules.specs.Program.{Program, tree_of}
 use Rattle.bundle_rules.specs.Linking.{Target, Origin, Gives, declaration, namespace_import, taken, given_on, starred, Linked, IsMissing}
-use Rattle.bundle_link_search.specs.declared.answer.Answer.TheVariants.{Missing, One, Two}
-use Rattle.bundle_link_search.specs.Graph.{Spot, Graph}
+use Rattle.bundle_link_index.specs.declared.answer.Candidates.TheVariants.{Missing, One, Two}
+use Rattle.bundle_link_index.specs.Graph.{NameSpot, Graph}
 use Rattle.bundle_rules.specs.Tables.{AreTwo}
-use Rattle.bundle_link_search.specs.Given.{Given, itself, led, starred as by_star, IsAnswer}
-use Rattle.bundle_link_index.specs.Linked.{Value, OwnGives, own_declaration, own_namespace, own_taken, OwnLeads, IsGraphOf}
+use Rattle.bundle_link_index.specs.Given.{Given, itself, led, starred as by_star, IsCandidates, IsIn}
+use Rattle.bundle_link_index.specs.Reached.{Starring, IsReach}
+use Rattle.bundle_link_index.specs.Linked.{Value, OwnGives, own_declaration, own_namespace, own_taken, OwnLeads, IsLinkGraph, Stars, StarReaches}
+use Rattle.bundle_link_index.specs.declared.index.Index.{Index}
+use Rattle.bundle_link_index.specs.Outside.{IsIndexOf}
+
+-- ---- linked
 
 -- what is given for a name of the graph, in the program
 pub record GivenAs (p : Program) (values : List Value) (m : ℕ) (x : Text) (v : ℕ) : Type 0 where
@@ -32,7 +39,7 @@ from_own (own_declaration stands none) = declaration stands none
 from_own (own_namespace entry stands bound takes) = namespace_import entry stands bound takes
 from_own (own_taken stands takes) = taken stands takes
 
-module _ (p : Program) (names : List Text) (values : List Value) (g : Graph) (w : IsGraphOf p names values g) where
+module _ (p : Program) (names : List Text) (values : List Value) (g : Graph) (w : IsLinkGraph p names values g) where
   not_default : (n : ℕ) (x : Text) → slice_get names n ≡ Some x → x ≢ default_name → n ≢ g.default
   not_default n x at named is = named (same_Some x default_name (sym at ∙ ap (slice_get names) is ∙ w.default))
 
@@ -40,7 +47,7 @@ module _ (p : Program) (names : List Text) (values : List Value) (g : Graph) (w 
   is_named n x at other is = other (w.one_name n g.default x at (w.default ∙ ap (λ y. Some y) (sym is)))
 
   -- ---- a path by numbers is one of the program
-  pub given_as : {at : Spot} {v : ℕ} → Given g at v → (x : Text) → slice_get names at.1 ≡ Some x → GivenAs p values at.0 x v
+  pub given_as : {at : NameSpot} {v : ℕ} → Given g at v → (x : Text) → slice_get names at.1 ≡ Some x → GivenAs p values at.0 x v
   given_as {at = at} {v = v} (itself e) x named = let r = w.gives at.0 at.1 v x named e in record { t = r.0; origin = r.1; is = r.2; given = from_own r.3 }
   given_as {at = at} {v = v} (led {next = next} e more) x named =
       let l = w.leads at.0 at.1 next.0 next.1 x named e in
@@ -77,10 +84,10 @@ module _ (p : Program) (names : List Text) (values : List Value) (g : Graph) (w 
 
   -- ---- answers
   module _ (m n : ℕ) (x : Text) (named : slice_get names n ≡ Some x) where
-    pub is_missing : IsAnswer g (m, n) Missing → IsMissing p m x
+    pub is_missing : IsCandidates g (m, n) Missing → IsMissing p m x
     is_missing right t origin given = let r = given_by given n named in right.all r.v r.given
 
-    pub is_linked : (v : ℕ) (t : Target) (origin : Option Origin) → slice_get values v ≡ Some (t, origin) → IsAnswer g (m, n) (One v) → Linked p m x t
+    pub is_linked : (v : ℕ) (t : Target) (origin : Option Origin) → slice_get values v ≡ Some (t, origin) → IsCandidates g (m, n) (One v) → Linked p m x t
     is_linked v t origin at right =
         let r = given_as right.kept x named in
         let same : (r.t, r.origin) ≡ (t, origin) = same_Some (r.t, r.origin) (t, origin) (sym r.is ∙ at) in
@@ -93,7 +100,7 @@ module _ (p : Program) (names : List Text) (values : List Value) (g : Graph) (w 
         }
 
     -- values of two numbers differ in the target or in the origin
-    pub are_two : (a b : ℕ) (first second : Value) → slice_get values a ≡ Some first → slice_get values b ≡ Some second → ((first.0 ≢ second.0) ⊎ (first.1 ≢ second.1)) → IsAnswer g (m, n) (Two a b) → AreTwo p m x first.0 second.0
+    pub are_two : (a b : ℕ) (first second : Value) → slice_get values a ≡ Some first → slice_get values b ≡ Some second → ((first.0 ≢ second.0) ⊎ (first.1 ≢ second.1)) → IsCandidates g (m, n) (Two a b) → AreTwo p m x first.0 second.0
     are_two a b first second at_a at_b differ right =
         let r = given_as right.kept.0 x named in
         let s = given_as right.kept.1 x named in
@@ -106,3 +113,14 @@ module _ (p : Program) (names : List Text) (values : List Value) (g : Graph) (w 
           gives_b = subst (λ (value : Value). Gives p m x value.0 value.1) same_b s.given;
           differ = differ;
         }
+
+-- ---- starred
+moved : {E F : ℕ → ℕ → Type 0} → ((a b : ℕ) → E a b → F a b) → {a c : ℕ} → Reaches E a c → Reaches F a c
+moved onto itself_starred = itself_starred
+moved onto (along {a = a} {b = b} edge more) = along (onto a b edge) (moved onto more)
+
+pub reach_is : (p : Program) (index : Index) → IsIndexOf p index → (start : ℕ) (list : List ℕ) → IsReach index.search start list → (d : ℕ) → IsIn list d ↔ StarReaches p start d
+reach_is p index is start list reach d = (
+  λ there. moved {E = Starring index.search} {F = Stars p} (λ a b. (is.names.stars a b).0) (reach.reached d there),
+  λ star. reach.all d (moved {E = Stars p} {F = Starring index.search} (λ a b. (is.names.stars a b).1) star),
+)

@@ -1,37 +1,72 @@
+-- An external is starred by a module exactly if a path of stars leads to one that stars it itself; a CommonJS module has no exports, so it ends such a path.
 -- Where the one name of links is given just the modules are that star an external, over any chain.
-use Rattle.std.proofs.Common.{◌≡◌, ◌≢◌, ◌⊎◌, get_or, take, subst₂, inl, inr, ℕ, zero, suc, ◌+◌, ◌<◌, ◌&&◌, Bool, true, false, List, [], ◌∷◌, ◌++◌, Option, Some, None, Contains, length, map, refl, sym, ap, ◌∙◌, subst, unwrap_or, if◌then◌else◌, nat_eq, eqb-true, eq-eqb, arith}
-use Rattle.std.specs.Prelude.{◌↔◌, IsTrue, slice_get, slice_index_or}
-use Rattle.std.specs.Borrow.{Bor}
+use Rattle.std.proofs.Common.{◌≡◌, ℕ, Bool, true, false, ◌||◌, List, [], ◌∷◌, ◌++◌, refl, sym, ap, ◌∙◌, ◌≢◌, get_or, take, subst₂, zero, suc, ◌+◌, ◌<◌, Option, Some, None, length, subst, unwrap_or, if◌then◌else◌, nat_eq, eqb-true, eq-eqb, arith}
+use Rattle.std.specs.Prelude.{Contains, IsTrue, flat_map, ◌↔◌, slice_get}
+use Rattle.std.specs.List.{list_any}
 use Rattle.std.proofs.lemmas.Bool.{false≢true, and_parts}
+use Rattle.std.specs.Borrow.{Bor}
 use Rattle.std.proofs.lemmas.List.{length-take-le}
-use Rattle.std.proofs.lemmas.Option.{none-some, same_Some}
-use Rattle.bundle_order_graph.specs.Walks.{Reaches, itself, along}
-use Rattle.bundle_rules.specs.Nodes.{Text}
-use Rattle.bundle_rules.specs.Entries.{Star}
-use Rattle.bundle_rules.specs.Program.{Program, resolves, is_external}
-use Rattle.bundle_rules.specs.Linking.{exports, HasExternalStar, own, through, IsModule, IsCommonJs}
+use Rattle.std.proofs.lemmas.Option.{none-some}
+use Rattle.bundle_syntax.specs.Item as in_item
+use Rattle.bundle_syntax.specs.Item.{Item, Head}
+use Rattle.bundle_order_graph.proofs.OrderLemmas.{not-true as not_true}
+use Rattle.bundle_rules.specs.Nodes.{Text, begins_with}
+use Rattle.bundle_rules.specs.Statements.{TopItem, top_items}
+use Rattle.bundle_rules.specs.Entries.{ImportEntry, Star, is_module_declaration, exports_by, exports_of_item, exports_of, imports_of, is_script}
+use Rattle.bundle_rules.specs.Program.{Program, tree_of, is_external, resolves}
+use Rattle.bundle_rules.specs.Linking.{exports, IsCommonJs, HasExternalStar, own, through}
 use Rattle.bundle_rules.specs.Faults.{StarsExternal}
-use Rattle.bundle_link_search.specs.declared.links.Own.{Own}
-use Rattle.bundle_link_search.specs.declared.links.Own.TheVariants.{Gives, Leads}
-use Rattle.bundle_link_search.specs.declared.links.Links.{Links}
-use Rattle.bundle_link_search.specs.Graph.{Spot, Graph, graph_of, own_of, same_spot, stars_of, PutsOwn}
-use Rattle.bundle_link_search.specs.Given.{Given, itself as at_own, led, starred as star_on}
-use Rattle.bundle_link_search.proofs.SearchLemmas.{same_spot-true, same_spot-same}
+use Rattle.bundle_link_index.specs.declared.links.OwnLink.TheVariants.{Gives, Leads}
+use Rattle.bundle_link_index.specs.Graph.{NameSpot, Graph, own_of, same_spot, PutsOwn}
+use Rattle.bundle_link_index.specs.Given.{Given, itself as at_own, led, starred as star_on}
+use Rattle.bundle_link_index.proofs.SearchLemmas.{same_spot-true, same_spot-same}
 use Rattle.bundle_link_index.specs.declared.target.LinkModule.{LinkModule}
 use Rattle.bundle_link_index.specs.declared.kinds.Kinds.{Kinds}
 use Rattle.bundle_link_index.specs.declared.index.Index.{Index}
-use Rattle.bundle_link_index.specs.Linked.{Stars}
-use Rattle.bundle_link_index.specs.Said.{Lead, Outside, ToModule, ToCommonJs, Nowhere, LeadsIn}
+use Rattle.bundle_link_index.specs.Said.{Lead, Outside, ToModule, ToCommonJs, LeadsIn}
 use Rattle.bundle_link_index.specs.Leads.{flagged, lead_found, lead_of}
 use Rattle.bundle_link_index.specs.Numbered.{all_starred, starred}
-use Rattle.bundle_link_index.specs.Handed.{numbered}
-use Rattle.bundle_link_index.specs.Programs.{AreModulesOf, by_star, lead_in}
-use Rattle.bundle_link_index.specs.Outside.{IsIndexOf, IsOutside, is_outside, outside_own, starring, stars_outside}
-use Rattle.bundle_link_index.proofs.HandedLemmas.{flag_at, flag_past, numbered_long, numbered_more}
+use Rattle.bundle_link_index.specs.Handed.{modules_numbered}
+use Rattle.bundle_link_index.specs.Programs.{AreModulesKnown, by_star, lead_in}
+use Rattle.bundle_link_index.specs.Outside.{IsIndexOf, IsOutsideGraph, is_outside, outside_own, starring, stars_outside}
+use Rattle.bundle_link_index.proofs.ProgramLemmas.{flag_at, flag_past, numbered_long, numbered_more, same_lead, leads_right, star_from, star_to, stars_back, stars_on, any_there, there_of_any}
 use Rattle.bundle_link_index.proofs.NumberedLemmas.{starred_more}
-use Rattle.bundle_link_index.proofs.ProgramLemmas.{same_lead, leads_right, star_from, star_to, stars_back, stars_on}
-use Rattle.bundle_link_index.proofs.SaidLemmas.{any_there, there_of_any}
-use Rattle.bundle_link_index.proofs.StarLemmas.{common_js_has_none}
+
+-- ---- star
+
+-- m itself stars the external s
+pub record StarsOutside (p : Program) (m : ℕ) (s : Text) : Type 0 where
+  pub stands : Contains (exports p m) (Star s)
+  pub external : IsTrue (is_external p s)
+
+-- ---- a script has no exports
+none_by_head : (head : Head) → is_module_declaration head ≡ false → (imports : List ImportEntry) (item : List Item) → exports_by imports head item ≡ []
+none_by_head in_item.ExportDecl e imports item = absurd (false≢true (sym e))
+none_by_head (in_item.NamedExport meta) e imports item = absurd (false≢true (sym e))
+none_by_head in_item.ExportDefaultDecl e imports item = absurd (false≢true (sym e))
+none_by_head in_item.ExportDefaultExpr e imports item = absurd (false≢true (sym e))
+none_by_head (in_item.ExportAll meta) e imports item = absurd (false≢true (sym e))
+none_by_head _ e imports item = refl
+
+none_of_item : (item : List Item) → begins_with is_module_declaration item ≡ false → (imports : List ImportEntry) → exports_of_item imports item ≡ []
+none_of_item (in_item.Open field head ∷ rest) e imports = none_by_head head e imports (in_item.Open field head ∷ rest)
+none_of_item _ e imports = refl
+
+or_false : (a b : Bool) → (a || b) ≡ false → (a ≡ false) × (b ≡ false)
+or_false true b e = absurd (false≢true (sym e))
+or_false false b e = (refl, e)
+
+none_of_all : (tops : List TopItem) → list_any (λ top. begins_with is_module_declaration top.items) tops ≡ false → (imports : List ImportEntry) → flat_map (λ top. exports_of_item imports top.items) tops ≡ []
+none_of_all [] e imports = refl
+none_of_all (top ∷ rest) e imports =
+    let both = or_false (begins_with is_module_declaration top.items) (list_any (λ other. begins_with is_module_declaration other.items) rest) e in
+    ap (λ l. l ++ flat_map (λ other. exports_of_item imports other.items) rest) (none_of_item top.items both.0 imports) ∙ none_of_all rest both.1 imports
+
+pub script_has_none : (tree : List Item) → IsTrue (is_script tree) → exports_of tree ≡ []
+script_has_none tree e = none_of_all (top_items tree) (not_true _ (and_parts _ _ e).0) (imports_of tree)
+
+pub common_js_has_none : (p : Program) (m : ℕ) → IsCommonJs p m → exports p m ≡ []
+common_js_has_none p m is = script_has_none (tree_of p m) is.script
 
 -- ---- one module more
 flag_last : (flags : List Bool) (b : Bool) (n : ℕ) → length flags ≡ n → flagged (flags ++ b ∷ []) n ≡ b
@@ -53,7 +88,7 @@ flag_before (x ∷ flags) b (suc n) zero is apart = refl
 flag_before (x ∷ flags) b (suc n) (suc m) is apart = flag_before flags b n m (omega arith) (λ e. apart (ap suc e))
 
 -- a module that stars no external
-pub outside_passed : (flags : List Bool) (lists : List (List ℕ)) (stars : List ℕ) (n : ℕ) (old new : Graph) → length flags ≡ n → IsOutside flags lists old → new.lists ≡ old.lists ++ stars ∷ [] → new.entries ≡ old.entries → new.default ≡ old.default → IsOutside (flags ++ false ∷ []) (lists ++ stars ∷ []) new
+pub outside_passed : (flags : List Bool) (lists : List (List ℕ)) (stars : List ℕ) (n : ℕ) (old new : Graph) → length flags ≡ n → IsOutsideGraph flags lists old → new.lists ≡ old.lists ++ stars ∷ [] → new.entries ≡ old.entries → new.default ≡ old.default → IsOutsideGraph (flags ++ false ∷ []) (lists ++ stars ∷ []) new
 outside_passed flags lists stars n old new long w more entries default = record {
   own = λ m. ap (λ l. own_of (record old { entries = l }) (m, 0)) entries ∙ w.own m ∙ ap outside_own (sym (by m (nat_eq m n) refl));
   starred = more ∙ ap (λ l. l ++ stars ∷ []) w.starred;
@@ -65,7 +100,7 @@ outside_passed flags lists stars n old new long w more entries default = record 
     by m false is = flag_before flags false n m long (λ e. false≢true (sym is ∙ eq-eqb m n e))
 
 -- and one that does
-pub outside_put : (flags : List Bool) (lists : List (List ℕ)) (n : ℕ) (old new : Graph) → length flags ≡ n → IsOutside (flags ++ false ∷ []) lists old → PutsOwn old (n, 0) (Gives 0) new → new.lists ≡ old.lists → new.default ≡ old.default → IsOutside (flags ++ true ∷ []) lists new
+pub outside_put : (flags : List Bool) (lists : List (List ℕ)) (n : ℕ) (old new : Graph) → length flags ≡ n → IsOutsideGraph (flags ++ false ∷ []) lists old → PutsOwn old (n, 0) (Gives 0) new → new.lists ≡ old.lists → new.default ≡ old.default → IsOutsideGraph (flags ++ true ∷ []) lists new
 outside_put flags lists n old new long w puts same_lists default = record {
   own = λ m. puts (m, 0) ∙ by m (nat_eq m n) refl;
   starred = same_lists ∙ w.starred;
@@ -89,14 +124,14 @@ outside_put flags lists n old new long w puts same_lists default = record {
         ∙ ap outside_own (flag_before flags false n m long apart ∙ sym (flag_before flags true n m long apart))
       where
         differ : (m : ℕ) → m ≢ n → same_spot (n, 0) (m, 0) ≡ false
-        differ m apart = not_true (same_spot (n, 0) (m, 0)) (λ e. apart (sym (ap (λ (s : Spot). s.0) (same_spot-true (n, 0) (m, 0) e))))
+        differ m apart = not_true (same_spot (n, 0) (m, 0)) (λ e. apart (sym (ap (λ (s : NameSpot). s.0) (same_spot-true (n, 0) (m, 0) e))))
           where
             not_true : (b : Bool) → (b ≡ true → ⊥) → b ≡ false
             not_true true h = absurd (h refl)
             not_true false h = refl
 
 -- no module yet
-pub outside_begins : (g : Graph) → g ≡ record { entries = []; lists = []; default = 1 } → IsOutside [] [] g
+pub outside_begins : (g : Graph) → g ≡ record { entries = []; lists = []; default = 1 } → IsOutsideGraph [] [] g
 outside_begins g is = record {
   own = λ m. ap (λ (k : Graph). own_of k (m, 0)) is;
   starred = ap (λ (k : Graph). k.lists) is;
@@ -105,13 +140,13 @@ outside_begins g is = record {
 
 -- the next module of a list
 pub outside_module : (lead : ℕ → Text → Lead) (modules : List LinkModule) (n : ℕ) (its : LinkModule) (old new : Graph) → its ≡ get_or modules n its → n < length modules
-    → IsOutside (numbered (starring lead) 0 (take n modules)) (all_starred lead 0 (take n modules)) old
-    → ((flags : List Bool) (lists : List (List ℕ)) → length flags ≡ n → IsOutside flags lists old → IsOutside (flags ++ stars_outside (lead n) its.tables.now.stars.items ∷ []) (lists ++ starred (lead n) its.tables.now.stars.items ∷ []) new)
-    → IsOutside (numbered (starring lead) 0 (take (n + 1) modules)) (all_starred lead 0 (take (n + 1) modules)) new
+    → IsOutsideGraph (modules_numbered (starring lead) 0 (take n modules)) (all_starred lead 0 (take n modules)) old
+    → ((flags : List Bool) (lists : List (List ℕ)) → length flags ≡ n → IsOutsideGraph flags lists old → IsOutsideGraph (flags ++ stars_outside (lead n) its.tables.now.stars.items ∷ []) (lists ++ starred (lead n) its.tables.now.stars.items ∷ []) new)
+    → IsOutsideGraph (modules_numbered (starring lead) 0 (take (n + 1) modules)) (all_starred lead 0 (take (n + 1) modules)) new
 outside_module lead modules n its old new is inside w step =
-    let long : length (numbered (starring lead) 0 (take n modules)) ≡ n = numbered_long (starring lead) 0 (take n modules) ∙ length-take-le n modules (omega arith) in
-    subst₂ (λ flags lists. IsOutside flags lists new) (numbered_more (starring lead) modules n its is inside) (starred_more lead modules n its is inside)
-    (step (numbered (starring lead) 0 (take n modules)) (all_starred lead 0 (take n modules)) long w)
+    let long : length (modules_numbered (starring lead) 0 (take n modules)) ≡ n = numbered_long (starring lead) 0 (take n modules) ∙ length-take-le n modules (omega arith) in
+    subst₂ (λ flags lists. IsOutsideGraph flags lists new) (numbered_more (starring lead) modules n its is inside) (starred_more lead modules n its is inside)
+    (step (modules_numbered (starring lead) 0 (take n modules)) (all_starred lead 0 (take n modules)) long w)
 
 -- ---- the program
 outside_is : (b : Bool) (flags : List Bool) (o : Option ℕ) → is_outside (if b then Outside else lead_found flags o) ≡ true → b ≡ true
@@ -127,7 +162,7 @@ gives_flag : (b : Bool) (v : ℕ) → outside_own b ≡ Some (Gives v) → b ≡
 gives_flag true v e = refl
 gives_flag false v e = absurd (none-some (Gives v) e)
 
-never_leads : (b : Bool) (next : Spot) → outside_own b ≡ Some (Leads next) → ⊥
+never_leads : (b : Bool) (next : NameSpot) → outside_own b ≡ Some (Leads next) → ⊥
 never_leads true next e = cc
 never_leads false next e = none-some (Leads next) e
 
@@ -135,10 +170,10 @@ has_star : {p : Program} {d : ℕ} {s : Text} → HasExternalStar p d s → (t :
 has_star {s = s} (own stands e) = (s, stands)
 has_star (through {r = r} stands leads more) = (r, stands)
 
-module _ (p : Program) (kinds : Kinds) (w : AreModulesOf p kinds) (g : Graph)
-    (o : IsOutside (numbered (starring (lead_of kinds)) 0 kinds.modules.now) (all_starred (lead_of kinds) 0 kinds.modules.now) g) where
+module _ (p : Program) (kinds : Kinds) (w : AreModulesKnown p kinds) (g : Graph)
+    (o : IsOutsideGraph (modules_numbered (starring (lead_of kinds)) 0 kinds.modules.now) (all_starred (lead_of kinds) 0 kinds.modules.now) g) where
   abbrev outs : List Bool
-  outs = numbered (starring (lead_of kinds)) 0 kinds.modules.now
+  outs = modules_numbered (starring (lead_of kinds)) 0 kinds.modules.now
 
   stars_it : (m : ℕ) → flagged outs m ≡ true → (s : Text) × Contains (exports p m) (Star s) × (is_external p s ≡ true)
   stars_it m e = by (slice_get kinds.modules.now m) refl
@@ -163,7 +198,7 @@ module _ (p : Program) (kinds : Kinds) (w : AreModulesOf p kinds) (g : Graph)
           flag_at (starring (lead_of kinds)) 0 m m kinds.modules.now its (omega arith) at
           ∙ any_there (λ (star : Bor Text). is_outside (lead_of kinds m star.now)) its.tables.now.stars.items r.0 r.1 (ap (λ y. is_outside (lead_of kinds m y)) r.2 ∙ outside)
 
-  given_stars : {at : Spot} {v : ℕ} → Given g at v → at.1 ≡ 0 → StarsExternal p at.0
+  given_stars : {at : NameSpot} {v : ℕ} → Given g at v → at.1 ≡ 0 → StarsExternal p at.0
   given_stars {at = at} {v = v} (at_own e) zero_is =
       let here : own_of g (at.0, 0) ≡ Some (Gives v) = ap (λ k. own_of g (at.0, k)) (sym zero_is) ∙ e in
       let r = stars_it at.0 (gives_flag (flagged outs at.0) v (sym (o.own at.0) ∙ here)) in

@@ -19,25 +19,25 @@ abbrev pub externals_of : List LinkModule → List Text
 externals_of modules = flat_map externals_by modules
 
 -- the numbers of the modules to which the literal calls of a module lead
-abbrev pub called_by : LinkModule → RequireCall → Option ℕ
-called_by its call = get_by_text its.leads.now call.specifier.now
+abbrev pub modules_called : LinkModule → RequireCall → Option ℕ
+modules_called its call = get_by_text its.leads.now call.specifier.now
 
 abbrev pub required_from : Option LinkModule → List ℕ
 required_from None = []
-required_from (Some its) = filter_map (called_by its) its.tables.now.calls.items
+required_from (Some its) = filter_map (modules_called its) its.tables.now.calls.items
 
 -- those of all modules with these numbers
 abbrev pub required_by : List LinkModule → List ℕ → List ℕ
 required_by modules list = flat_map (λ m. required_from (slice_get modules m)) list
 
 -- a set holds just these numbers
-abbrev pub HasNumbers : {S : Type 0} → IndexSet ℕ S → List ℕ → Type 0
-HasNumbers set ns = (n : ℕ) → contains nat_eq set n ≡ list_any (nat_eq n) ns
+abbrev pub HoldsNumbers : {S : Type 0} → IndexSet ℕ S → List ℕ → Type 0
+HoldsNumbers set ns = (n : ℕ) → contains nat_eq set n ≡ list_any (nat_eq n) ns
 
 -- something of each module and its number; the numbers begin with this one
-abbrev pub numbered : {B : Type 0} → (ℕ → LinkModule → B) → ℕ → List LinkModule → List B
-numbered f m [] = []
-numbered f m (its ∷ rest) = f m its ∷ numbered f (suc m) rest
+abbrev pub modules_numbered : {B : Type 0} → (ℕ → LinkModule → B) → ℕ → List LinkModule → List B
+modules_numbered f m [] = []
+modules_numbered f m (its ∷ rest) = f m its ∷ modules_numbered f (suc m) rest
 
 -- whether a module is CommonJS, where these are required
 abbrev pub is_kind : Bool → ℕ → List ℕ → ℕ → LinkModule → Bool
@@ -45,4 +45,4 @@ is_kind require entry required m its = require && (not (m == entry) && (its.tabl
 
 -- the same of all modules
 abbrev pub kinds_of : List LinkModule → List ℕ → ℕ → Bool → List Bool
-kinds_of modules list entry require = numbered (is_kind require entry (required_by modules list)) 0 modules
+kinds_of modules list entry require = modules_numbered (is_kind require entry (required_by modules list)) 0 modules

@@ -1,3 +1,7 @@
+pub mod Graph
+pub mod Answers
+pub mod Given
+pub mod Reached
 pub mod Linked
 pub mod Said
 pub mod Leads

@@ -6,8 +6,8 @@ use Rattle.bundle_rules.specs.Entries.{Taken, Named, ImportEntry, Local, Indirec
 use Rattle.bundle_rules.specs.Program.{Program, tree_of}
 use Rattle.bundle_rules.specs.Linking.{exports, imports, Target, Declared, Takes, IsModule, Origin}
 use Rattle.bundle_order_graph.specs.Walks.{Reaches}
-use Rattle.bundle_link_search.specs.declared.links.Own.TheVariants.{Gives, Leads}
-use Rattle.bundle_link_search.specs.Graph.{Graph, own_of, stars_of}
+use Rattle.bundle_link_index.specs.declared.links.OwnLink.TheVariants.{Gives, Leads}
+use Rattle.bundle_link_index.specs.Graph.{Graph, own_of, stars_of}
 
 -- a target with its origin
 abbrev pub Value : Type 0
@@ -23,7 +23,7 @@ pub data OwnGives (p : Program) (m : ℕ) (x : Text) : Target → Option Origin 
       Contains (exports p m) (Local x y) →
       import_of (imports p m) y ≡ Some entry →
       Takes p m entry.specifier entry.taken t →
-      OwnGives p m x t (Some (record { «module» = m; local = y }))
+      OwnGives p m x t (Some (record { which = m; local = y }))
   own_taken : {s : Text} {what : Taken} {t : Target} →
       Contains (exports p m) (Indirect x s what) →
       Takes p m s what t →
@@ -46,7 +46,7 @@ abbrev pub StarReaches : Program → ℕ → ℕ → Type 0
 StarReaches p m d = Reaches (Stars p) m d
 
 -- the graph stands for the program, where these are its names and values, each at its number
-pub record IsGraphOf (p : Program) (names : List Text) (values : List Value) (g : Graph) : Type 0 where
+pub record IsLinkGraph (p : Program) (names : List Text) (values : List Value) (g : Graph) : Type 0 where
   pub gives : (m n v : ℕ) (x : Text) →
       slice_get names n ≡ Some x →
       own_of g (m, n) ≡ Some (Gives v) →

@@ -5,9 +5,9 @@ use Rattle.bundle_rules.specs.Statements.{default_name}
 use Rattle.bundle_rules.specs.Entries.{Taken, Named, Whole, ImportEntry, ExportEntry, Local, Indirect, Star, import_of, is_named}
 use Rattle.bundle_rules.specs.Program.{Program, resolves, is_external}
 use Rattle.bundle_rules.specs.Linking.{exports, imports, Target, Declared, Namespace, External, CommonJs, IsModule, IsCommonJs, Origin}
-use Rattle.bundle_link_search.specs.declared.links.Own.{Own}
-use Rattle.bundle_link_search.specs.declared.links.Own.TheVariants.{Gives, Leads, Nothing}
-use Rattle.bundle_link_search.specs.Graph.{Graph, own_of, stars_of}
+use Rattle.bundle_link_index.specs.declared.links.OwnLink.{OwnLink}
+use Rattle.bundle_link_index.specs.declared.links.OwnLink.TheVariants.{Gives, Leads, Nothing}
+use Rattle.bundle_link_index.specs.Graph.{Graph, own_of, stars_of}
 use Rattle.bundle_link_index.specs.Linked.{Value}
 
 -- where a specifier of a module leads: to an external, to an ES module, to a CommonJS module, or to nothing
@@ -47,7 +47,7 @@ target_only Naught = Naught
 -- what a name of the module's own gives, where this import binds it, or none
 abbrev pub said_local : (Text → Lead) → ℕ → Text → Option ImportEntry → Said
 said_local lead m y None = It (Declared m y) None
-said_local lead m y (Some entry) = target_only (said_by m entry.specifier (Some (record { «module» = m; local = y })) entry.taken (lead entry.specifier))
+said_local lead m y (Some entry) = target_only (said_by m entry.specifier (Some (record { which = m; local = y })) entry.taken (lead entry.specifier))
 
 -- what an entry of m says, where these are its imports
 abbrev pub said_of : (Text → Lead) → ℕ → List ImportEntry → ExportEntry → Said
@@ -56,20 +56,20 @@ said_of lead m imports (Indirect x s taken) = said_by m s None taken (lead s)
 said_of lead m imports (Star s) = Naught
 
 -- the number stands for it
-abbrev pub IsNumber : List Text → List Value → Said → Own → Type 0
-IsNumber names values (It t origin) (Gives v) = slice_get values v ≡ Some (t, origin)
-IsNumber names values (On d y) (Leads next) = (next.0 ≡ d) × (slice_get names next.1 ≡ Some y)
-IsNumber names values Naught Nothing = Unit {0}
-IsNumber names values _ _ = ⊥
+abbrev pub IsSaidNumber : List Text → List Value → Said → OwnLink → Type 0
+IsSaidNumber names values (It t origin) (Gives v) = slice_get values v ≡ Some (t, origin)
+IsSaidNumber names values (On d y) (Leads next) = (next.0 ≡ d) × (slice_get names next.1 ≡ Some y)
+IsSaidNumber names values Naught Nothing = Unit {0}
+IsSaidNumber names values _ _ = ⊥
 
 -- what stands by numbers for the entry of a name
 pub record EntryAt (p : Program) (lead : ℕ → Text → Lead) (names : List Text) (values : List Value) (g : Graph) (m n : ℕ) (x : Text) : Type 0 where
   pub entry : ExportEntry
   pub stands : Contains (exports p m) entry
   pub named : is_named x entry ≡ true
-  pub own : Own
+  pub own : OwnLink
   pub noted : own_of g (m, n) ≡ Some own
-  pub number : IsNumber names values (said_of (lead m) m (imports p m) entry) own
+  pub number : IsSaidNumber names values (said_of (lead m) m (imports p m) entry) own
 
 -- what is made of the tables of a program, where its specifiers lead so
 pub record AreNumbers (p : Program) (lead : ℕ → Text → Lead) (names : List Text) (values : List Value) (g : Graph) : Type 0 where

@@ -5,23 +5,22 @@ ghost use Rattle.bundle_rules.specs.Entries.{ImportEntry};
 ghost use Rattle.bundle_rules.specs.Program.{Program};
 ghost use Rattle.bundle_link_tables.specs.Exported.{Finds};
 ghost use Rattle.bundle_rules.specs.Faults.{StarsExternal};
-ghost use Rattle.bundle_link_search.specs.Graph.{Graph, Spot, graph_of};
-ghost use Rattle.bundle_link_search.specs.Given.{Given as IsGiven, IsAnswer, IsIn};
+ghost use Rattle.bundle_link_index.specs.Graph.{Graph, NameSpot, graph_of};
+ghost use Rattle.bundle_link_index.specs.Given.{Given as IsGiven, IsCandidates, IsIn};
 ghost use Rattle.bundle_link_index.specs.Outside.{IsIndexOf};
 ghost use Rattle.bundle_link_index.specs.Leads.{lead_of};
-ghost use Rattle.bundle_link_index.specs.Numbered.{Noted, HoldsAt, IsEmpty, IsNumbered, names_of, values_of, note, notes_of, starred};
-ghost use Rattle.bundle_link_index.specs.Programs.{AreModulesOf};
-ghost use Rattle.bundle_link_index.specs.Linked.{IsGraphOf, StarReaches};
-ghost use Rattle.bundle_link_index.specs.Says.{Tells, answer_says, linked_of, target_of};
+ghost use Rattle.bundle_link_index.specs.Numbered.{NotedEntry, HoldsAt, IsEmpty, IsGraphNumbered, index_names, values_of, note, notes_of, starred};
+ghost use Rattle.bundle_link_index.specs.Programs.{AreModulesKnown};
+ghost use Rattle.bundle_link_index.specs.Linked.{IsLinkGraph, StarReaches};
+ghost use Rattle.bundle_link_index.specs.Says.{TellsAnswer, answer_says, linked_of, target_of};
 
 use crate::kinds::Kinds;
-use crate::numbers::Numbers;
-use crate::own::{Asked, Given, locals_of, own_entry};
+use crate::numbers::LinkNumbers;
+use crate::own::{Asked, GivenTarget, locals_of, own_entry};
 use crate::stars::{outside_links, starred_modules};
-use crate::target::Target;
-use bundle_link_search as places;
-use bundle_link_search::{Links, Search};
-use bundle_link_tables::{Export, Import, Tables};
+use crate::target::TargetRef;
+use crate::{Candidates, Links, Search};
+use bundle_link_tables::{Export, ImportRef, Tables};
 use bundle_scope_denote::texts::TextMap;
 use indexmap::IndexSet;
 use std::alloc::{AllocError, Global};
@@ -33,13 +32,13 @@ pub const DEFAULT: &str = "default";
 #[derive(Clone, Copy)]
 pub enum Answer<'a> {
     None,
-    One(Given<'a>),
-    Two(Given<'a>, Given<'a>),
+    One(GivenTarget<'a>),
+    Two(GivenTarget<'a>, GivenTarget<'a>),
 }
 
 impl<'a> Answer<'a> {
     /// The target to which the name is linked.
-    pub fn linked(self) -> Option<Target<'a>>
+    pub fn linked(self) -> Option<TargetRef<'a>>
         ensures { option_map target_of result ≡ linked_of (answer_says self.entry) }
     {
         match self {
@@ -52,7 +51,7 @@ impl<'a> Answer<'a> {
 /// What own entries give, and what is starred.
 #[derive(Drop)]
 pub struct Index<'a> {
-    numbers: Numbers<'a>,
+    numbers: LinkNumbers<'a>,
     search: Search,
     /// The search for the modules that star an external over a chain.
     outside: Search,
@@ -62,9 +61,9 @@ impl<'a> Index<'a> {
     /// Notes what the entries of modules give.
     pub fn new(alloc: Global, kinds: &Kinds<'_, '_, 'a>) -> Result<Index<'a>, AllocError>
         ensures { IfOk result (λ index.
-            (p : Program) → AreModulesOf p kinds.now → IsIndexOf p index) }
+            (p : Program) → AreModulesKnown p kinds.now → IsIndexOf p index) }
     {
-        let named = Named::new(alloc, kinds)?;
+        let named = NamedIndex::new(alloc, kinds)?;
         let outside = outside_of(alloc, kinds)?;
         Ok(joined(named, outside))
     }
@@ -72,10 +71,10 @@ impl<'a> Index<'a> {
     /// What is given for a name, which is noted.
     pub fn answer(&mut self, alloc: Global, asked: Asked<'a>) -> Result<Answer<'a>, AllocError>
         ensures right { IfOk result (λ answer. (p : Program) → IsIndexOf p self.old →
-            Tells p asked.entry.module asked.entry.name.now (answer_says answer)) }
+            TellsAnswer p asked.entry.which asked.entry.name.now (answer_says answer)) }
         ensures same { self.new ≡ self.old }
     {
-        match self.numbers.spot(asked.module, asked.name) {
+        match self.numbers.spot(asked.which, asked.name) {
             Some(at) => {
                 let found = self.search.answer(alloc, at)?;
                 Ok(self.numbers.answer(found))
@@ -87,7 +86,7 @@ impl<'a> Index<'a> {
     /// The same, which is not noted.
     pub fn found(&self, alloc: Global, number: usize, name: &str) -> Result<Answer<'a>, AllocError>
         ensures { IfOk result (λ answer. (p : Program) → IsIndexOf p self.now →
-            Tells p number name.now (answer_says answer)) }
+            TellsAnswer p number name.now (answer_says answer)) }
     {
         match self.numbers.spot(number, name) {
             Some(at) => {
@@ -129,20 +128,20 @@ impl<'a> Index<'a> {
 
 // Numbers of names and of what is given, with the search over them.
 #[derive(Drop)]
-struct Named<'a> {
-    numbers: Numbers<'a>,
+struct NamedIndex<'a> {
+    numbers: LinkNumbers<'a>,
     search: Search,
 }
 
-impl<'a> Named<'a> {
+impl<'a> NamedIndex<'a> {
     // What the tables of modules say.
-    fn new(alloc: Global, kinds: &Kinds<'_, '_, 'a>) -> Result<Named<'a>, AllocError>
-        ensures { IfOk result (λ named. (p : Program) → AreModulesOf p kinds.now →
-            IsGraphOf p (names_of named.numbers) (values_of named.numbers) named.search) }
+    fn new(alloc: Global, kinds: &Kinds<'_, '_, 'a>) -> Result<NamedIndex<'a>, AllocError>
+        ensures { IfOk result (λ named. (p : Program) → AreModulesKnown p kinds.now →
+            IsLinkGraph p (index_names named.numbers) (values_of named.numbers) named.search) }
     {
-        let mut numbers = Numbers::new(alloc);
+        let mut numbers = LinkNumbers::new(alloc);
         let search = search_of(alloc, kinds, &mut numbers)?;
-        Ok(Named { numbers, search })
+        Ok(NamedIndex { numbers, search })
     }
 }
 
@@ -150,11 +149,11 @@ impl<'a> Named<'a> {
 fn search_of<'a>(
     alloc: Global,
     kinds: &Kinds<'_, '_, 'a>,
-    numbers: &mut Numbers<'a>,
+    numbers: &mut LinkNumbers<'a>,
 ) -> Result<Search, AllocError>
     ensures { IsEmpty numbers.old →
         IfOk result (λ search.
-        IsNumbered kinds.now (names_of numbers.new) (values_of numbers.new) search) }
+        IsGraphNumbered kinds.now (index_names numbers.new) (values_of numbers.new) search) }
 {
     let links = links_of(alloc, kinds, numbers)?;
     Search::new(alloc, links)
@@ -162,7 +161,7 @@ fn search_of<'a>(
 
 // The search for the modules that star an external over a chain.
 fn outside_of<'a>(alloc: Global, kinds: &Kinds<'_, '_, 'a>) -> Result<Search, AllocError>
-    ensures { IfOk result (λ outside. (p : Program) → AreModulesOf p kinds.now → (m : ℕ) →
+    ensures { IfOk result (λ outside. (p : Program) → AreModulesKnown p kinds.now → (m : ℕ) →
         ((v : ℕ) × IsGiven outside (m, 0) v) ↔ StarsExternal p m) }
 {
     let links = outside_links(alloc, kinds)?;
@@ -170,7 +169,7 @@ fn outside_of<'a>(alloc: Global, kinds: &Kinds<'_, '_, 'a>) -> Result<Search, Al
 }
 
 // The index of both.
-fn joined<'a>(named: Named<'a>, outside: Search) -> Index<'a>
+fn joined<'a>(named: NamedIndex<'a>, outside: Search) -> Index<'a>
     ensures numbers { result.numbers ≡ named.entry.numbers }
     ensures search { result.search ≡ named.entry.search }
     ensures outside { result.outside ≡ outside }
@@ -183,14 +182,14 @@ fn joined<'a>(named: Named<'a>, outside: Search) -> Index<'a>
 }
 
 // Whether anything is given.
-fn is_given(answer: places::Answer) -> bool
-    ensures { (g : Graph) (at : Spot) →
-        IsAnswer g at answer → IsTrue result ↔ ((v : ℕ) × IsGiven g at v) }
+fn is_given(answer: Candidates) -> bool
+    ensures { (g : Graph) (at : NameSpot) →
+        IsCandidates g at answer → IsTrue result ↔ ((v : ℕ) × IsGiven g at v) }
 {
     match answer {
-        places::Answer::Missing => false,
-        places::Answer::One(_) => true,
-        places::Answer::Two(_, _) => true,
+        Candidates::Missing => false,
+        Candidates::One(_) => true,
+        Candidates::Two(_, _) => true,
     }
 }
 
@@ -198,11 +197,11 @@ fn is_given(answer: places::Answer) -> bool
 fn links_of<'a>(
     alloc: Global,
     kinds: &Kinds<'_, '_, 'a>,
-    numbers: &mut Numbers<'a>,
+    numbers: &mut LinkNumbers<'a>,
 ) -> Result<Links, AllocError>
     ensures { IsEmpty numbers.old →
         IfOk result (λ links.
-        IsNumbered kinds.now (names_of numbers.new) (values_of numbers.new) (graph_of links)) }
+        IsGraphNumbered kinds.now (index_names numbers.new) (values_of numbers.new) (graph_of links)) }
 {
     let mut links = Links::new(alloc, numbers.of_name(DEFAULT)?);
     for (number, module) in kinds.modules.iter().enumerate() {
@@ -215,12 +214,12 @@ fn links_of<'a>(
 fn add_module<'a>(
     alloc: Global,
     kinds: &Kinds<'_, '_, 'a>,
-    numbers: &mut Numbers<'a>,
+    numbers: &mut LinkNumbers<'a>,
     links: &mut Links,
     number: usize,
     tables: &Tables<'a>,
 ) -> Result<(), AllocError>
-    ensures { (noted : List Noted) (stars : List (List ℕ)) →
+    ensures { (noted : List NotedEntry) (stars : List (List ℕ)) →
         HoldsAt noted stars numbers.old links.old →
         OnOk result
         (HoldsAt (noted ++ notes_of (lead_of kinds.now number) number tables.now)
@@ -236,15 +235,15 @@ fn add_module<'a>(
 // Notes the entries of a module.
 fn add_entries<'a>(
     kinds: &Kinds<'_, '_, 'a>,
-    numbers: &mut Numbers<'a>,
+    numbers: &mut LinkNumbers<'a>,
     links: &mut Links,
     number: usize,
     exports: &[Export<'a>],
-    locals: &TextMap<&'a str, Import<'a>>,
+    locals: &TextMap<&'a str, ImportRef<'a>>,
 ) -> Result<(), AllocError>
     ensures { (imports : List ImportEntry) →
         Finds locals.now imports →
-        (noted : List Noted) (stars : List (List ℕ)) →
+        (noted : List NotedEntry) (stars : List (List ℕ)) →
         HoldsAt noted stars numbers.old links.old →
         OnOk result
         (HoldsAt (noted ++ map (note (lead_of kinds.now number) number imports) exports.now) stars
@@ -259,15 +258,15 @@ fn add_entries<'a>(
 // Notes an entry of a module.
 fn add_entry<'a>(
     kinds: &Kinds<'_, '_, 'a>,
-    numbers: &mut Numbers<'a>,
+    numbers: &mut LinkNumbers<'a>,
     links: &mut Links,
     number: usize,
     export: Export<'a>,
-    locals: &TextMap<&'a str, Import<'a>>,
+    locals: &TextMap<&'a str, ImportRef<'a>>,
 ) -> Result<(), AllocError>
     ensures { (imports : List ImportEntry) →
         Finds locals.now imports →
-        (noted : List Noted) (stars : List (List ℕ)) →
+        (noted : List NotedEntry) (stars : List (List ℕ)) →
         HoldsAt noted stars numbers.old links.old →
         OnOk result
         (HoldsAt (noted ++ note (lead_of kinds.now number) number imports export.entry ∷ []) stars

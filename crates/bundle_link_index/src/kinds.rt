@@ -6,9 +6,9 @@ ghost use Rattle.bundle_rules.specs.Nodes.{Text};
 ghost use Rattle.bundle_rules.specs.Program.{Program};
 ghost use Rattle.bundle_link_tables.specs.Sources.{HasTexts};
 ghost use Rattle.bundle_link_index.specs.Handed as handed;
-ghost use Rattle.bundle_link_index.specs.Handed.{HasNumbers, called_by, external_one, is_kind, numbered, required_from};
+ghost use Rattle.bundle_link_index.specs.Handed.{HoldsNumbers, modules_called, external_one, is_kind, modules_numbered, required_from};
 ghost use Rattle.bundle_link_index.specs.Leads.{flagged, lead_of, lead_told, lead_to, required_of};
-ghost use Rattle.bundle_link_index.specs.Programs.{AreModulesOf, IsProgramOf};
+ghost use Rattle.bundle_link_index.specs.Programs.{AreModulesKnown, IsLinkProgram};
 
 use crate::target::{LinkModule, Setting};
 use bundle_link_tables::{RequireCall, Source, Tables};
@@ -50,7 +50,7 @@ impl<'m, 't, 'a> Kinds<'m, 't, 'a> {
         setting: Setting,
     ) -> Result<Kinds<'m, 't, 'a>, AllocError>
         ensures right { IfOk result (λ kinds. (p : Program) →
-            IsProgramOf p modules.now list.now entry setting.require → AreModulesOf p kinds) }
+            IsLinkProgram p modules.now list.now entry setting.require → AreModulesKnown p kinds) }
         ensures held { IfOk result (λ kinds.
             (kinds.list.now ≡ list.now) × (kinds.setting.iife ≡ setting.iife)) }
     {
@@ -68,11 +68,11 @@ impl<'m, 't, 'a> Kinds<'m, 't, 'a> {
     }
 
     /// The tables of a module.
-    pub fn tables(&self, module: usize) -> Option<&'t Tables<'a>>
+    pub fn tables(&self, which: usize) -> Option<&'t Tables<'a>>
         ensures { result
-            ≡ option_map (λ its. its.tables) (slice_get self.now.modules.now «module») }
+            ≡ option_map (λ its. its.tables) (slice_get self.now.modules.now which) }
     {
-        Some(self.modules.get(module)?.tables)
+        Some(self.modules.get(which)?.tables)
     }
 
     /// The number of the module to which a literal call of `require` leads.
@@ -160,7 +160,7 @@ fn required_by(
     list: &[usize],
 ) -> Result<IndexSet<usize>, AllocError>
     ensures { IfOk result (λ required.
-        HasNumbers required (handed.required_by modules.now list.now)) }
+        HoldsNumbers required (handed.required_by modules.now list.now)) }
 {
     let mut required = IndexSet::new(alloc);
     for number in list {
@@ -179,15 +179,15 @@ fn module_at<'t, 'a>(modules: &[LinkModule<'t, 'a>], number: usize) -> Option<Li
 // Adds those that a module requires, if it is there.
 fn add_required(
     required: &mut IndexSet<usize>,
-    module: Option<LinkModule>,
+    link_module: Option<LinkModule>,
 ) -> Result<(), AllocError>
-    ensures { (before : List ℕ) → HasNumbers required.old before →
-        OnOk result (HasNumbers required.new (before ++ required_from «module».entry)) }
+    ensures { (before : List ℕ) → HoldsNumbers required.old before →
+        OnOk result (HoldsNumbers required.new (before ++ required_from link_module.entry)) }
 {
-    match module {
-        Some(module) => {
-            let tables = module.tables;
-            add_called(required, &module, &tables.calls)
+    match link_module {
+        Some(link_module) => {
+            let tables = link_module.tables;
+            add_called(required, &link_module, &tables.calls)
         }
         None => Ok(()),
     }
@@ -196,30 +196,30 @@ fn add_required(
 // Adds the modules to which calls of a module lead.
 fn add_called(
     required: &mut IndexSet<usize>,
-    module: &LinkModule,
+    link_module: &LinkModule,
     calls: &[RequireCall],
 ) -> Result<(), AllocError>
     ensures { (before : List ℕ) →
-        HasNumbers required.old before →
+        HoldsNumbers required.old before →
         OnOk result
-        (HasNumbers required.new (before ++ filter_map (called_by «module».now) calls.now)) }
+        (HoldsNumbers required.new (before ++ filter_map (modules_called link_module.now) calls.now)) }
 {
     for call in calls {
-        add_number(required, called(&*module, *call))?;
+        add_number(required, called(&*link_module, *call))?;
     }
     Ok(())
 }
 
 // The number of the module to which a call of a module leads.
-fn called<'a>(module: &LinkModule<'_, 'a>, call: RequireCall<'a>) -> Option<usize>
-    ensures { result ≡ called_by «module».now call.entry }
+fn called<'a>(link_module: &LinkModule<'_, 'a>, call: RequireCall<'a>) -> Option<usize>
+    ensures { result ≡ modules_called link_module.now call.entry }
 {
-    module.leads.get(call.specifier).copied()
+    link_module.leads.get(call.specifier).copied()
 }
 
 fn add_number(required: &mut IndexSet<usize>, number: Option<usize>) -> Result<(), AllocError>
-    ensures { (before : List ℕ) → HasNumbers required.old before →
-        OnOk result (HasNumbers required.new (before ++ cons_option number [])) }
+    ensures { (before : List ℕ) → HoldsNumbers required.old before →
+        OnOk result (HoldsNumbers required.new (before ++ cons_option number [])) }
 {
     match number {
         Some(number) => {
@@ -239,9 +239,9 @@ fn kinds_of(
     require: bool,
 ) -> Result<Vec<bool>, AllocError>
     ensures { (those : List ℕ) →
-        HasNumbers required.now those →
+        HoldsNumbers required.now those →
         IfOk result (λ flags.
-        flags.items ≡ numbered (is_kind require entry those) 0 modules.now) }
+        flags.items ≡ modules_numbered (is_kind require entry those) 0 modules.now) }
 {
     let mut flags = Vec::new(alloc);
     for (number, module) in modules.iter().enumerate() {
@@ -252,14 +252,14 @@ fn kinds_of(
 }
 
 // Whether a module is CommonJS.
-fn is_common_js(module: &LinkModule, require: bool, is_entry: bool, is_required: bool) -> bool
+fn is_common_js(link_module: &LinkModule, require: bool, is_entry: bool, is_required: bool) -> bool
     ensures { result
         ≡ (require
         && (not is_entry
-        && («module».now.tables.now.is_script
-        && («module».now.tables.now.names_common_js || is_required)))) }
+        && (link_module.now.tables.now.is_script
+        && (link_module.now.tables.now.names_common_js || is_required)))) }
 {
-    let tables = module.tables;
+    let tables = link_module.tables;
     require && !is_entry && tables.is_script && (tables.names_common_js || is_required)
 }
 

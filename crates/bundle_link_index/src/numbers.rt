@@ -1,29 +1,29 @@
 //! Numbers for names and for what is given.
 
 ghost use Rattle.std.specs.Prelude.{◌≡◌, IfOk, OnOk, slice_get};
-ghost use Rattle.bundle_link_index.specs.Said.{IsNumber};
-ghost use Rattle.bundle_link_index.specs.Numbered.{Inserts, IsEmpty, IsSpot, Reaches, names_of, values_of};
-ghost use Rattle.bundle_link_index.specs.Says.{answer_says, double, own_says, told_of, value_of};
+ghost use Rattle.bundle_link_index.specs.Said.{IsSaidNumber};
+ghost use Rattle.bundle_link_index.specs.Numbered.{Inserts, IsEmpty, IsNameSpot, HasMoreNumbers, index_names, values_of};
+ghost use Rattle.bundle_link_index.specs.Says.{answer_says, double, own_says, answer_of_values, value_of};
 
 use crate::index::Answer;
-use crate::own::{Given, Own};
-use bundle_link_search as places;
+use crate::own::{GivenTarget, OwnTarget};
+use crate::{Candidates, OwnLink};
 use bundle_scope_denote::texts::TextSet;
 use std::alloc::{AllocError, Global};
 
 /// Names, and what own entries give, each once: its number is its place.
 #[derive(Drop)]
-pub(crate) struct Numbers<'a> {
+pub(crate) struct LinkNumbers<'a> {
     pub(crate) names: TextSet<&'a str>,
-    pub(crate) given: TextSet<Given<'a>>,
+    pub(crate) given: TextSet<GivenTarget<'a>>,
 }
 
-impl<'a> Numbers<'a> {
+impl<'a> LinkNumbers<'a> {
     // No name, and nothing that is given.
-    pub(crate) fn new(alloc: Global) -> Numbers<'a>
+    pub(crate) fn new(alloc: Global) -> LinkNumbers<'a>
         ensures { IsEmpty result }
     {
-        Numbers {
+        LinkNumbers {
             names: TextSet::new(alloc),
             given: TextSet::new(alloc),
         }
@@ -32,7 +32,7 @@ impl<'a> Numbers<'a> {
     // The number of a name.
     pub(crate) fn of_name(&mut self, name: &'a str) -> Result<usize, AllocError>
         ensures names { IfOk result (λ n.
-            Inserts (names_of self.old) (names_of self.new) name.now n) }
+            Inserts (index_names self.old) (index_names self.new) name.now n) }
         ensures values { OnOk result (values_of self.new ≡ values_of self.old) }
     {
         let (number, _) = self.names.insert_full(name)?;
@@ -40,37 +40,37 @@ impl<'a> Numbers<'a> {
     }
 
     // The number of what is given.
-    pub(crate) fn of_given(&mut self, given: Given<'a>) -> Result<usize, AllocError>
+    pub(crate) fn of_given(&mut self, given: GivenTarget<'a>) -> Result<usize, AllocError>
         ensures values { IfOk result (λ n.
             Inserts (values_of self.old) (values_of self.new) (value_of given.entry) n) }
-        ensures names { OnOk result (names_of self.new ≡ names_of self.old) }
+        ensures names { OnOk result (index_names self.new ≡ index_names self.old) }
     {
         let (number, _) = self.given.insert_full(given)?;
         Ok(number)
     }
 
     // What an own entry says, by numbers.
-    pub(crate) fn of_own(&mut self, own: Own<'a>) -> Result<places::Own, AllocError>
+    pub(crate) fn of_own(&mut self, own: OwnTarget<'a>) -> Result<OwnLink, AllocError>
         ensures number { IfOk result (λ its.
-            IsNumber (names_of self.new) (values_of self.new) (own_says own.entry) its) }
-        ensures more { OnOk result (Reaches self.old self.new) }
+            IsSaidNumber (index_names self.new) (values_of self.new) (own_says own.entry) its) }
+        ensures more { OnOk result (HasMoreNumbers self.old self.new) }
     {
         match own {
-            Own::Gives(given) => {
+            OwnTarget::Gives(given) => {
                 let number = self.of_given(given)?;
-                Ok(places::Own::Gives(number))
+                Ok(OwnLink::Gives(number))
             }
-            Own::Leads(asked) => {
+            OwnTarget::Leads(asked) => {
                 let number = self.of_name(asked.name)?;
-                Ok(places::Own::Leads((asked.module, number)))
+                Ok(OwnLink::Leads((asked.which, number)))
             }
-            Own::Nothing => Ok(places::Own::Nothing),
+            OwnTarget::Nothing => Ok(OwnLink::Nothing),
         }
     }
 
     // The number of a name of a module, where it has one.
     pub(crate) fn spot(&self, number: usize, name: &str) -> Option<(usize, usize)>
-        ensures { IsSpot (names_of self.now) number name.now result }
+        ensures { IsNameSpot (index_names self.now) number name.now result }
     {
         match self.names.place_of(name) {
             Some(place) => Some((number, place)),
@@ -79,16 +79,16 @@ impl<'a> Numbers<'a> {
     }
 
     // What was found by numbers.
-    pub(crate) fn answer(&self, found: places::Answer) -> Answer<'a>
-        ensures { answer_says result ≡ told_of (values_of self.now) found }
+    pub(crate) fn answer(&self, found: Candidates) -> Answer<'a>
+        ensures { answer_says result ≡ answer_of_values (values_of self.now) found }
     {
         match found {
-            places::Answer::Missing => Answer::None,
-            places::Answer::One(value) => match self.given.get_index(value) {
+            Candidates::Missing => Answer::None,
+            Candidates::One(value) => match self.given.get_index(value) {
                 Some(given) => Answer::One(*given),
                 None => Answer::None,
             },
-            places::Answer::Two(first, second) => self.two(first, second),
+            Candidates::Two(first, second) => self.two(first, second),
         }
     }
 

@@ -9,31 +9,31 @@ ghost use Rattle.bundle_link_index.specs.Leads.{lead_of};
 ghost use Rattle.bundle_link_index.specs.Says.{origin_of, own_says};
 
 use crate::kinds::{Kinds, Lead};
-use crate::target::Target;
-use bundle_link_tables::{Export, Import, Origin, Tables, Taken};
+use crate::target::TargetRef;
+use bundle_link_tables::{Export, ImportRef, Origin, Tables, Taken};
 use bundle_scope_denote::texts::TextMap;
 use std::alloc::{AllocError, Global};
 
 /// A name of a module.
 #[derive(Clone, Copy, PartialEq, Eq, Hash, PartialOrd, Ord)]
 pub struct Asked<'a> {
-    pub module: usize,
+    pub which: usize,
     pub name: &'a str,
 }
 
 /// A target that is given, and the module and name bound by `import * as` with which it goes, if there is
 /// one. Two of equal target that go with different ones count as two.
 #[derive(Clone, Copy, PartialEq, Eq, Hash, PartialOrd, Ord)]
-pub struct Given<'a> {
-    pub target: Target<'a>,
+pub struct GivenTarget<'a> {
+    pub target: TargetRef<'a>,
     pub origin: Option<Asked<'a>>,
 }
 
 /// What an own entry of a module says.
 #[derive(Clone, Copy)]
-pub enum Own<'a> {
+pub enum OwnTarget<'a> {
     /// It gives this.
-    Gives(Given<'a>),
+    Gives(GivenTarget<'a>),
     /// It gives what this name of an ECMAScript module gives.
     Leads(Asked<'a>),
     /// It gives nothing.
@@ -44,7 +44,7 @@ pub enum Own<'a> {
 pub fn locals_of<'a>(
     alloc: Global,
     tables: &Tables<'a>,
-) -> Result<TextMap<&'a str, Import<'a>>, AllocError>
+) -> Result<TextMap<&'a str, ImportRef<'a>>, AllocError>
     ensures { IfOk result (λ locals. Finds locals (map import_entry_of tables.now.imports.items)) }
 {
     let mut locals = TextMap::new(alloc);
@@ -56,8 +56,8 @@ pub fn locals_of<'a>(
 
 // Notes an import, unless one of that name was noted.
 fn note_import<'a>(
-    locals: &mut TextMap<&'a str, Import<'a>>,
-    import: Import<'a>,
+    locals: &mut TextMap<&'a str, ImportRef<'a>>,
+    import: ImportRef<'a>,
 ) -> Result<(), AllocError>
     ensures { (before : List ImportEntry) → Finds locals.old before →
         OnOk result (Finds locals.new (before ++ import_entry_of import.entry ∷ [])) }
@@ -75,34 +75,34 @@ pub fn taking<'a>(
     specifier: &'a str,
     taken: Taken<'a>,
     origin: Option<Asked<'a>>,
-) -> Own<'a>
+) -> OwnTarget<'a>
     ensures { own_says result
         ≡ said_by taker specifier.now (option_map origin_of origin.entry) (taken_of taken.entry)
         (lead_of kinds.now taker specifier.now) }
 {
     let target = match kinds.lead(taker, specifier) {
-        Lead::External => Target::External { specifier, taken },
-        Lead::CommonJs(module) => Target::CommonJs {
+        Lead::External => TargetRef::External { specifier, taken },
+        Lead::CommonJs(which) => TargetRef::CommonJs {
             taker,
-            module,
+            which,
             taken,
         },
-        Lead::Module(module) => match taken {
-            Taken::Whole => Target::Namespace { module },
-            Taken::Named(name) => return Own::Leads(Asked { module, name }),
+        Lead::Module(which) => match taken {
+            Taken::Whole => TargetRef::Namespace { which },
+            Taken::Named(name) => return OwnTarget::Leads(Asked { which, name }),
         },
-        Lead::Nowhere => return Own::Nothing,
+        Lead::Nowhere => return OwnTarget::Nothing,
     };
-    Own::Gives(Given { target, origin })
+    OwnTarget::Gives(GivenTarget { target, origin })
 }
 
 /// What an export of a module says.
 pub fn own_entry<'a>(
     kinds: &Kinds<'_, '_, 'a>,
     number: usize,
-    locals: &TextMap<&'a str, Import<'a>>,
+    locals: &TextMap<&'a str, ImportRef<'a>>,
     export: Export<'a>,
-) -> Own<'a>
+) -> OwnTarget<'a>
     ensures { (imports : List ImportEntry) →
         Finds locals.now imports →
         own_says result
@@ -117,30 +117,30 @@ pub fn own_entry<'a>(
 // What a name of a module's own gives, where this import binds it, or none.
 fn local_entry<'a>(
     kinds: &Kinds<'_, '_, 'a>,
-    module: usize,
+    which: usize,
     name: &'a str,
-    import: Option<Import<'a>>,
-) -> Own<'a>
+    import: Option<ImportRef<'a>>,
+) -> OwnTarget<'a>
     ensures { own_says result
-        ≡ said_local (lead_of kinds.now «module») «module» name.now
+        ≡ said_local (lead_of kinds.now which) which name.now
         (option_map import_entry_of import.entry) }
 {
-    let own = Some(Asked { module, name });
+    let own = Some(Asked { which, name });
     match import {
-        None => Own::Gives(Given {
-            target: Target::Declared { module, name },
+        None => OwnTarget::Gives(GivenTarget {
+            target: TargetRef::Declared { which, name },
             origin: None,
         }),
-        Some(import) => given_only(taking(kinds, module, import.specifier, import.taken, own)),
+        Some(import) => given_only(taking(kinds, which, import.specifier, import.taken, own)),
     }
 }
 
 // What is given by itself.
-fn given_only<'a>(own: Own<'a>) -> Own<'a>
+fn given_only<'a>(own: OwnTarget<'a>) -> OwnTarget<'a>
     ensures { own_says result ≡ target_only (own_says own.entry) }
 {
     match own {
-        Own::Gives(given) => Own::Gives(given),
-        Own::Leads(_) | Own::Nothing => Own::Nothing,
+        OwnTarget::Gives(given) => OwnTarget::Gives(given),
+        OwnTarget::Leads(_) | OwnTarget::Nothing => OwnTarget::Nothing,
     }
 }

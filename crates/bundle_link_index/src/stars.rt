@@ -2,14 +2,14 @@
 
 ghost use Rattle.std.specs.Prelude.{◌≡◌, ◌++◌, ◌∷◌, [], IfOk, List, OnOk, ℕ, Bool, length};
 ghost use Rattle.std.specs.List.{cons_option};
-ghost use Rattle.bundle_link_search.specs.Graph.{graph_of};
+ghost use Rattle.bundle_link_index.specs.Graph.{graph_of};
 ghost use Rattle.bundle_link_index.specs.Leads.{lead_of, lead_told};
 ghost use Rattle.bundle_link_index.specs.Numbered.{module_in, starred};
 ghost use Rattle.bundle_link_index.specs.Outside as outside;
-ghost use Rattle.bundle_link_index.specs.Outside.{IsOutside, IsOutsideOf};
+ghost use Rattle.bundle_link_index.specs.Outside.{IsOutsideGraph, IsOutsideOf};
 
 use crate::kinds::{Kinds, Lead};
-use bundle_link_search::{Links, Own};
+use crate::{Links, OwnLink};
 use bundle_link_tables::Tables;
 use std::alloc::{AllocError, Global};
 
@@ -111,16 +111,16 @@ fn add_outside<'a>(
 ) -> Result<(), AllocError>
     ensures { (flags : List Bool) (lists : List (List ℕ)) →
         length flags ≡ number →
-        IsOutside flags lists (graph_of links.old) →
+        IsOutsideGraph flags lists (graph_of links.old) →
         OnOk result
-        (IsOutside
+        (IsOutsideGraph
         (flags ++ outside.stars_outside (lead_of kinds.now number) tables.now.stars.items ∷ [])
         (lists ++ starred (lead_of kinds.now number) tables.now.stars.items ∷ [])
         (graph_of links.new)) }
 {
     links.add_module(starred_modules(alloc, kinds, number, tables)?)?;
     if stars_outside(kinds, number, &tables.stars) {
-        links.add_own((number, 0), Own::Gives(0))?;
+        links.add_own((number, 0), OwnLink::Gives(0))?;
         return Ok(());
     }
     Ok(())

@@ -5,15 +5,15 @@ use std::collections::BTreeMap;
 
 /// What a name can stand for.
 #[derive(Clone, Copy, PartialEq, Eq, Hash, PartialOrd, Ord)]
-pub enum Target<'a> {
+pub enum TargetRef<'a> {
     /// A declaration of a module.
     Declared {
-        module: usize,
+        which: usize,
         name: &'a str,
     },
     /// The namespace of a module.
     Namespace {
-        module: usize,
+        which: usize,
     },
     /// What is taken of an external.
     External {
@@ -23,7 +23,7 @@ pub enum Target<'a> {
     /// What the module `taker` takes of a CommonJS module.
     CommonJs {
         taker: usize,
-        module: usize,
+        which: usize,
         taken: Taken<'a>,
     },
 }

@@ -1,28 +1,33 @@
 -- What a top item exports under a name, by its head.
-use Rattle.std.proofs.Common.{◌≡◌, ℕ, zero, suc, ◌+◌, Bool, true, false, List, [], ◌∷◌, ◌++◌, Option, Some, None, length, refl, ap, sym, ◌∙◌, append_assoc, map}
+-- The names that a module asks of others.
+use Rattle.std.proofs.Common.{◌≡◌, ℕ, zero, suc, ◌+◌, Bool, true, false, List, [], ◌∷◌, ◌++◌, Option, Some, None, length, refl, ap, sym, ◌∙◌, append_assoc, map, ◌||◌, append-nil}
 use Rattle.std.specs.Prelude.{if◌then◌else◌, filter, not}
-use Rattle.std.specs.List.{flat_map}
+use Rattle.std.specs.List.{flat_map, list_any}
 use Rattle.std.proofs.lemmas.List.{map-append}
-use Rattle.bundle_tree_piece.specs.Item as h
-use Rattle.bundle_tree_piece.specs.Item.{Item, Head}
+use Rattle.std.specs.Borrow.{Bor}
+use Rattle.std.proofs.lemmas.Grind.{flat_map-append}
+use Rattle.indexmap.specs.IndexSet.{IndexSet}
+use Rattle.bundle_syntax.specs.Item as h
+use Rattle.bundle_syntax.specs.Item.{Item, Head}
 use Rattle.bundle_rules.specs.Nodes.{Text, begins_with, child, in_field, parts, string_of, each_once}
 use Rattle.bundle_rules.specs.Entries as e
 use Rattle.bundle_rules.specs.Entries.{Named, Whole}
-use Rattle.bundle_rules.specs.Faults.{is_named_specifier}
+use Rattle.bundle_rules.specs.Faults.{is_named_specifier, AskedName, asked_by_export, asked_by_import, asked_by_item, asked_names}
 use Rattle.bundle_rules.specs.Statements.{placed}
-use Rattle.bundle_link_tables.specs.Exported.{bound_at, depth_in, export_by, locals_named, named_by, named_by_head, named_declared, named_here, named_in_list}
+use Rattle.bundle_rules.specs.Tables.{is_star, star_of}
 use Rattle.bundle_tree_places.specs.Heads.{is_namespace_specifier, is_variables}
 use Rattle.bundle_tree_places.specs.Lengths.{head_at}
-use Rattle.bundle_rules.specs.Tables.{is_star, star_of}
-use Rattle.std.specs.Borrow.{Bor}
-use Rattle.indexmap.specs.IndexSet.{IndexSet}
+use Rattle.bundle_link_tables.specs.Exported.{bound_at, depth_in, export_by, locals_named, exports_named, named_by_head, named_declared, named_here, named_in_list}
 use Rattle.bundle_link_tables.specs.Sources.{has_external, star_by, star_in, told_external, HasTexts}
+use Rattle.bundle_link_tables.proofs.ImportLemmas.{same_head, each_placed}
+use Rattle.bundle_link_tables.specs.Asked.{asked_in, is_given_on}
+use Rattle.bundle_link_tables.specs.declared.table.Export.{Export}
+use Rattle.bundle_link_tables.specs.TablesOf.{export_entry_of}
 
-same_head : (a b : Head) → Some a ≡ Some b → a ≡ b
-same_head a b e = cc
+-- ---- export
 
 -- an item with a head exports by it
-pub named_some : (look : Text → Option e.ImportEntry) (items : List Item) (head : Head) → head_at items ≡ Some head → named_by look items ≡ named_by_head look head items
+pub named_some : (look : Text → Option e.ImportEntry) (items : List Item) (head : Head) → head_at items ≡ Some head → exports_named look items ≡ named_by_head look head items
 named_some look [] head is = cc
 named_some look (h.Open field its ∷ rest) head is = ap (λ one. named_by_head look one (h.Open field its ∷ rest)) (same_head its head is)
 named_some look (h.Ident field sym ctxt role ∷ rest) head is = cc
@@ -30,7 +35,7 @@ named_some look (h.Hole field ∷ rest) head is = cc
 named_some look (h.Close ∷ rest) head is = cc
 
 -- what is no node exports nothing
-pub named_none : (look : Text → Option e.ImportEntry) (items : List Item) → head_at items ≡ None → named_by look items ≡ []
+pub named_none : (look : Text → Option e.ImportEntry) (items : List Item) → head_at items ≡ None → exports_named look items ≡ []
 named_none look [] is = refl
 named_none look (h.Open field its ∷ rest) is = cc
 named_none look (h.Ident field sym ctxt role ∷ rest) is = refl
@@ -96,11 +101,6 @@ bound_moved before all found depth next x rest items is here behind known =
     ∙ ap (λ (l : List Text). before ++ locals_named l) (sym (bound_step depth x rest))
     ∙ ap (λ (l : List Item). before ++ locals_named (e.names_bound depth l)) (sym is)
     ∙ known
-
--- no names are bound by no elements
-pub bound_end : (depth : ℕ) → e.names_bound depth [] ≡ []
-bound_end zero = refl
-bound_end (suc depth) = refl
 
 -- a specifier of an export list with `from`, by its head
 from_head : (source : Text) (field : ℕ) (head : Head) (rest : List Item) → e.entry_from source (h.Open field head ∷ rest) ≡ (if is_namespace_specifier head then e.Indirect (e.text_in 0 (h.Open field head ∷ rest)) source e.Whole else e.Indirect (e.renamed_text (h.Open field head ∷ rest)) source (e.Named (e.text_in 0 (h.Open field head ∷ rest))))
@@ -192,20 +192,20 @@ named_heads look imports same h.ExportDefaultExpr item = refl
 named_heads look imports same (h.ExportAll meta) item = refl
 named_heads look imports same _ item = refl
 
-pub named_items : (look : Text → Option e.ImportEntry) (imports : List e.ImportEntry) → ((x : Text) → look x ≡ e.import_of imports x) → (items : List Item) → flat_map named_entry (e.exports_of_item imports items) ≡ named_by look items
+pub named_items : (look : Text → Option e.ImportEntry) (imports : List e.ImportEntry) → ((x : Text) → look x ≡ e.import_of imports x) → (items : List Item) → flat_map named_entry (e.exports_of_item imports items) ≡ exports_named look items
 named_items look imports same [] = refl
 named_items look imports same (h.Open field head ∷ rest) = named_heads look imports same head (h.Open field head ∷ rest)
 named_items look imports same (h.Ident field sym ctxt role ∷ rest) = refl
 named_items look imports same (h.Hole field ∷ rest) = refl
 named_items look imports same (h.Close ∷ rest) = refl
 
-named_placed : (look : Text → Option e.ImportEntry) (imports : List e.ImportEntry) → ((x : Text) → look x ≡ e.import_of imports x) → (start : ℕ) (nodes : List (List Item)) → flat_map named_entry (flat_map (λ top. e.exports_of_item imports top.items) (placed start nodes)) ≡ flat_map (named_by look) nodes
+named_placed : (look : Text → Option e.ImportEntry) (imports : List e.ImportEntry) → ((x : Text) → look x ≡ e.import_of imports x) → (start : ℕ) (nodes : List (List Item)) → flat_map named_entry (flat_map (λ top. e.exports_of_item imports top.items) (placed start nodes)) ≡ flat_map (exports_named look) nodes
 named_placed look imports same start [] = refl
 named_placed look imports same start (node ∷ more) =
     let behind = placed (start + length node) more in
     named_append (e.exports_of_item imports node) (flat_map (λ top. e.exports_of_item imports top.items) behind)
     ∙ ap (λ l. flat_map named_entry (e.exports_of_item imports node) ++ l) (named_placed look imports same (start + length node) more)
-    ∙ ap (λ l. l ++ flat_map (named_by look) more) (named_items look imports same node)
+    ∙ ap (λ l. l ++ flat_map (exports_named look) more) (named_items look imports same node)
 
 -- they are the entries that are no stars
 named_filter : (es : List e.ExportEntry) → flat_map named_entry es ≡ filter (λ entry. not (is_star entry)) es
@@ -215,20 +215,20 @@ named_filter (e.Indirect name specifier taken ∷ es) = ap (λ l. e.Indirect nam
 named_filter (e.Star specifier ∷ es) = named_filter es
 
 -- the exports of a module that have a name, where these are its top items and `look` finds its imports
-pub exports_placed : (look : Text → Option e.ImportEntry) (tree : List Item) (tops : List (List Item)) → ((x : Text) → look x ≡ e.import_of (e.imports_of tree) x) → tops ≡ parts tree → flat_map (named_by look) tops ≡ filter (λ entry. not (is_star entry)) (e.exports_of tree)
-exports_placed look tree tops same are = ap (flat_map (named_by look)) are ∙ sym (named_placed look (e.imports_of tree) same 1 (parts tree)) ∙ named_filter (e.exports_of tree)
+pub exports_placed : (look : Text → Option e.ImportEntry) (tree : List Item) (tops : List (List Item)) → ((x : Text) → look x ≡ e.import_of (e.imports_of tree) x) → tops ≡ parts tree → flat_map (exports_named look) tops ≡ filter (λ entry. not (is_star entry)) (e.exports_of tree)
+exports_placed look tree tops same are = ap (flat_map (exports_named look)) are ∙ sym (named_placed look (e.imports_of tree) same 1 (parts tree)) ∙ named_filter (e.exports_of tree)
 
 -- `look` finds the imports of a module, where it finds these
 pub imports_found : (look : Text → Option e.ImportEntry) (imports : List e.ImportEntry) (tree : List Item) → imports ≡ e.imports_of tree → ((x : Text) → look x ≡ e.import_of imports x) → (x : Text) → look x ≡ e.import_of (e.imports_of tree) x
 imports_found look imports tree are known x = known x ∙ ap (λ l. e.import_of l x) are
 
 -- what a module asks for, where these are its top items
-asked_placed : (start : ℕ) (nodes : List (List Item)) → flat_map (λ top. e.requests_of_item top.items) (placed start nodes) ≡ flat_map e.requests_of_item nodes
-asked_placed start [] = refl
-asked_placed start (node ∷ more) = ap (λ l. e.requests_of_item node ++ l) (asked_placed (start + length node) more)
+asked_placed_export : (start : ℕ) (nodes : List (List Item)) → flat_map (λ top. e.requests_of_item top.items) (placed start nodes) ≡ flat_map e.requests_of_item nodes
+asked_placed_export start [] = refl
+asked_placed_export start (node ∷ more) = ap (λ l. e.requests_of_item node ++ l) (asked_placed_export (start + length node) more)
 
 pub requests_placed : (tree : List Item) (tops : List (List Item)) → tops ≡ parts tree → flat_map e.requests_of_item tops ≡ e.declared_requests tree
-requests_placed tree tops are = ap (flat_map e.requests_of_item) are ∙ sym (asked_placed 1 (parts tree))
+requests_placed tree tops are = ap (flat_map e.requests_of_item) are ∙ sym (asked_placed_export 1 (parts tree))
 
 -- The stars.
 
@@ -308,3 +308,63 @@ stars_placed tree tops are = ap each_once (ap (flat_map star_in) are ∙ sym (st
 pub told_all : {S : Type 0} (set : IndexSet (Bor Text) S) (texts xs : List Text) → HasTexts set texts → map (has_external set) xs ≡ map (told_external texts) xs
 told_all set texts [] holds = refl
 told_all set texts (x ∷ xs) holds = ap (λ b. (x, b) ∷ map (has_external set) xs) (holds x) ∙ ap (λ l. told_external texts x ∷ l) (told_all set texts xs holds)
+
+-- ---- asked
+
+-- a star asks for nothing, so the exports that have a name are enough
+asked_named : (es : List e.ExportEntry) → flat_map asked_by_export (flat_map named_entry es) ≡ flat_map asked_by_export es
+asked_named [] = refl
+asked_named (e.Local name of ∷ es) = asked_named es
+asked_named (e.Indirect name specifier taken ∷ es) = ap (λ l. asked_by_export (e.Indirect name specifier taken) ++ l) (asked_named es)
+asked_named (e.Star specifier ∷ es) = asked_named es
+
+-- what a top item asks for, where `look` finds the imports of its module
+asked_item : (look : Text → Option e.ImportEntry) (imports : List e.ImportEntry) → ((x : Text) → look x ≡ e.import_of imports x) → (item : List Item) → asked_in look item ≡ asked_by_item imports item
+asked_item look imports same item =
+    ap (λ l. flat_map asked_by_import (e.imports_of_item item) ++ flat_map asked_by_export l) (sym (named_items look imports same item))
+    ∙ ap (λ l. flat_map asked_by_import (e.imports_of_item item) ++ l) (asked_named (e.exports_of_item imports item))
+
+asked_items : (look : Text → Option e.ImportEntry) (imports : List e.ImportEntry) → ((x : Text) → look x ≡ e.import_of imports x) → (items : List (List Item)) → flat_map (asked_in look) items ≡ flat_map (asked_by_item imports) items
+asked_items look imports same [] = refl
+asked_items look imports same (item ∷ more) =
+    ap (λ l. asked_in look item ++ l) (asked_items look imports same more)
+    ∙ ap (λ l. l ++ flat_map (asked_by_item imports) more) (asked_item look imports same item)
+
+-- the names that a module asks for, where these are its top items and `look` finds its imports
+pub asked_placed : (look : Text → Option e.ImportEntry) (tree : List Item) (tops : List (List Item)) → ((x : Text) → look x ≡ e.import_of (e.imports_of tree) x) → tops ≡ parts tree → flat_map (asked_in look) tops ≡ asked_names tree
+asked_placed look tree tops same are =
+    ap (flat_map (asked_in look)) are
+    ∙ asked_items look (e.imports_of tree) same (parts tree)
+    ∙ sym (each_placed (asked_by_item (e.imports_of tree)) 1 (parts tree))
+
+-- exports of which none is given on ask for nothing
+none_asked : (exports : List Export) → list_any (λ export. is_given_on (export_entry_of export)) exports ≡ false → flat_map asked_by_export (map export_entry_of exports) ≡ []
+none_asked [] none = refl
+none_asked (export ∷ more) none = by (export_entry_of export) (none_asked more) none
+  where
+    others : Bool
+    others = list_any (λ (other : Export). is_given_on (export_entry_of other)) more
+
+    by : (entry : e.ExportEntry) → (others ≡ false → flat_map asked_by_export (map export_entry_of more) ≡ []) → (is_given_on entry || others) ≡ false → asked_by_export entry ++ flat_map asked_by_export (map export_entry_of more) ≡ []
+    by (e.Local name of) rest none = rest none
+    by (e.Indirect name specifier taken) rest none = cc
+    by (e.Star specifier) rest none = rest none
+
+both_empty : (first second : List AskedName) → first ++ second ≡ [] → (first ≡ []) × (second ≡ [])
+both_empty [] second none = (refl, none)
+both_empty (x ∷ first) second none = cc
+
+-- where the exports ask for nothing, the top items ask for what their imports do
+asked_alone : (look : Text → Option e.ImportEntry) (tops : List (List Item)) → flat_map asked_by_export (flat_map (exports_named look) tops) ≡ [] → flat_map asked_by_import (flat_map e.imports_of_item tops) ≡ flat_map (asked_in look) tops
+asked_alone look [] none = refl
+asked_alone look (item ∷ more) none =
+    let imports : List AskedName = flat_map asked_by_import (e.imports_of_item item) in
+    let both = both_empty (flat_map asked_by_export (exports_named look item)) (flat_map asked_by_export (flat_map (exports_named look) more)) (sym (flat_map-append asked_by_export (exports_named look item) (flat_map (exports_named look) more)) ∙ none) in
+    flat_map-append asked_by_import (e.imports_of_item item) (flat_map e.imports_of_item more)
+    ∙ ap (λ l. imports ++ l) (asked_alone look more both.1)
+    ∙ ap (λ l. l ++ flat_map (asked_in look) more) (sym (append-nil imports) ∙ ap (λ l. imports ++ l) (sym both.0))
+
+-- where these are the imports of the top items and these their exports, of which none is given on, the imports alone ask
+pub imports_alone : (look : Text → Option e.ImportEntry) (tops : List (List Item)) (imports : List e.ImportEntry) (exports : List Export) → imports ≡ flat_map e.imports_of_item tops → map export_entry_of exports ≡ flat_map (exports_named look) tops → list_any (λ export. is_given_on (export_entry_of export)) exports ≡ false → flat_map asked_by_import imports ≡ flat_map (asked_in look) tops
+imports_alone look tops imports exports are given none =
+    ap (flat_map asked_by_import) are ∙ asked_alone look tops (ap (flat_map asked_by_export) (sym given) ∙ none_asked exports none)

@@ -1,14 +1,13 @@
 -- The fault that is told is the first of the tree.
 use Rattle.std.proofs.Common.{◌≡◌, ℕ, zero, suc, ◌<◌, ◌≤◌, ◌⊎◌, Bool, true, false, not, ◌||◌, IsTrue, List, [], ◌∷◌, ◌++◌, Option, Some, None, find, map, length, ◌==◌, slice_get, cond, eqb-true, refl, sym, ap, ◌∙◌, subst, inl, inr, arith, bytes_eq}
 use Rattle.std.specs.Prelude.{if◌then◌else◌, filter, MatchOption, option_map}
-use Rattle.std.specs.List.{list_any}
-use Rattle.std.proofs.lemmas.Bool.{false≢true, true≢false, both_ways, or_cases, or_left, or_right, not-true, not_from_false}
+use Rattle.std.proofs.lemmas.Bool.{false≢true, both_ways, or_cases, or_left, or_right, not-true, not_from_false}
 use Rattle.std.proofs.lemmas.Option.{none-some, same_Some}
 use Rattle.std.proofs.lemmas.List.Folds.{list_any-append}
 use Rattle.std.proofs.lemmas.Slice.Eq.{bytes_eq-Decides}
 use Rattle.bundle_tree_names.specs.FileName.{Name}
-use Rattle.bundle_tree_piece.specs.Item as h
-use Rattle.bundle_tree_piece.specs.Item.{Item, Head}
+use Rattle.bundle_syntax.specs.Item as h
+use Rattle.bundle_syntax.specs.Item.{Item, Head}
 use Rattle.bundle_rules.specs.Nodes.{Text, has_text, has_head}
 use Rattle.bundle_rules.specs.Bundle.{is_with}
 use Rattle.bundle_rules.specs.Bound.{top_names}
@@ -16,7 +15,7 @@ use Rattle.bundle_rules.specs.Entries.{ExportEntry, Local, Indirect, Star, expor
 use Rattle.bundle_rules.specs.Tables.{is_star}
 use Rattle.bundle_rules.specs.Faults as t
 use Rattle.bundle_rules.specs.Faults.{Fault, ListedName, entry_name, listed_names, TreeFault, doubled_export, undeclared_export, with_statement, NotAfter, earlier_stage, same_stage, IsFirstTreeFault, IsFaultless}
-use Rattle.bundle_link_tables.specs.Judged.{doubled_name, is_undeclared, is_top_name, undeclared_name, first_fault}
+use Rattle.bundle_link_tables.specs.Judged.{doubled_entry_name, is_undeclared, is_top_name, undeclared_name, first_fault}
 
 -- Doubled names.
 
@@ -33,7 +32,7 @@ abbrev TellsDoubled : List Text → List ExportEntry → Option Text → Type 0
 TellsDoubled met es None = (l : ℕ) (x : Text) → IsDoubledAt met es l x → ⊥
 TellsDoubled met es (Some x) = (j : ℕ) × IsDoubledAt met es j x × ((l : ℕ) (y : Text) → IsDoubledAt met es l y → j ≤ l)
 
-same_texts : (x y : Text) → bytes_eq x y ≡ true → x ≡ y
+pub same_texts : (x y : Text) → bytes_eq x y ≡ true → x ≡ y
 same_texts x y is = (bytes_eq-Decides x y).0 is
 
 has_last : (met : List Text) (x : Text) → has_text x (met ++ x ∷ []) ≡ true
@@ -118,20 +117,20 @@ module _ (met : List Text) (entry : ExportEntry) (rest : List ExportEntry) (x : 
   named_told (Some z) one =
       (suc one.0, named_in one.0 z one.1, λ l y it. let out = named_out l y it in let least = one.2 out.0 y out.2 in omega (arith, least, out.1))
 
-tells_doubled : (met : List Text) (es : List ExportEntry) → TellsDoubled met es (doubled_name met es)
+tells_doubled : (met : List Text) (es : List ExportEntry) → TellsDoubled met es (doubled_entry_name met es)
 tells_doubled met [] = λ l x it. none-some it.0 it.1
 tells_doubled met (entry ∷ rest) = by (entry_name entry) refl (tells_doubled met rest) (λ x. tells_doubled (met ++ x ∷ []) rest)
   where
-    by : (name : Option Text) → entry_name entry ≡ name → TellsDoubled met rest (doubled_name met rest) → ((x : Text) → TellsDoubled (met ++ x ∷ []) rest (doubled_name (met ++ x ∷ []) rest)) → TellsDoubled met (entry ∷ rest) (elim name [ None ↦ doubled_name met rest | Some x ↦ if has_text x met then Some x else doubled_name (met ++ x ∷ []) rest ])
-    by None is same more = nameless_told met entry rest is (doubled_name met rest) same
+    by : (name : Option Text) → entry_name entry ≡ name → TellsDoubled met rest (doubled_entry_name met rest) → ((x : Text) → TellsDoubled (met ++ x ∷ []) rest (doubled_entry_name (met ++ x ∷ []) rest)) → TellsDoubled met (entry ∷ rest) (elim name [ None ↦ doubled_entry_name met rest | Some x ↦ if has_text x met then Some x else doubled_entry_name (met ++ x ∷ []) rest ])
+    by None is same more = nameless_told met entry rest is (doubled_entry_name met rest) same
     by (Some x) is same more = known (has_text x met) refl
       where
-        known : (b : Bool) → has_text x met ≡ b → TellsDoubled met (entry ∷ rest) (if b then Some x else doubled_name (met ++ x ∷ []) rest)
+        known : (b : Bool) → has_text x met ≡ b → TellsDoubled met (entry ∷ rest) (if b then Some x else doubled_entry_name (met ++ x ∷ []) rest)
         known true there = (zero, (entry, refl, is, inl there), λ l y it. omega arith)
-        known false there = named_told met entry rest x is there (doubled_name (met ++ x ∷ []) rest) (more x)
+        known false there = named_told met entry rest x is there (doubled_entry_name (met ++ x ∷ []) rest) (more x)
 
 -- stars have no name
-pub doubled_filter : (met : List Text) (es : List ExportEntry) → doubled_name met (filter (λ entry. not (is_star entry)) es) ≡ doubled_name met es
+pub doubled_filter : (met : List Text) (es : List ExportEntry) → doubled_entry_name met (filter (λ entry. not (is_star entry)) es) ≡ doubled_entry_name met es
 doubled_filter met [] = refl
 doubled_filter met (Local name of ∷ es) = ap (λ o. if has_text name met then Some name else o) (doubled_filter (met ++ name ∷ []) es)
 doubled_filter met (Indirect name specifier taken ∷ es) = ap (λ o. if has_text name met then Some name else o) (doubled_filter (met ++ name ∷ []) es)
@@ -273,8 +272,8 @@ module _ (file : Name) (tree : List Item) where
       faultless _ _ _ (with_statement {place} {field} at) = without place (field, at)
 
   -- what is told is the first fault, or that there is none
-  pub judged : MatchOption (first_fault file (doubled_name [] (exports_of tree)) (undeclared_name (is_top_name tree) (listed_names tree)) (has_head is_with tree)) (IsFaultless file tree) (IsFirstTreeFault file tree)
-  judged = by (doubled_name [] (exports_of tree)) (tells_doubled [] (exports_of tree)) (find (is_undeclared (is_top_name tree)) (listed_names tree)) (tells_first (is_undeclared (is_top_name tree)) (listed_names tree)) (has_head is_with tree) (tells_with tree)
+  pub judged : MatchOption (first_fault file (doubled_entry_name [] (exports_of tree)) (undeclared_name (is_top_name tree) (listed_names tree)) (has_head is_with tree)) (IsFaultless file tree) (IsFirstTreeFault file tree)
+  judged = by (doubled_entry_name [] (exports_of tree)) (tells_doubled [] (exports_of tree)) (find (is_undeclared (is_top_name tree)) (listed_names tree)) (tells_first (is_undeclared (is_top_name tree)) (listed_names tree)) (has_head is_with tree) (tells_with tree)
     where
       by : (doubled : Option Text) → TellsDoubled [] (exports_of tree) doubled → (listed : Option ListedName) → TellsFirst (is_undeclared (is_top_name tree)) (listed_names tree) listed → (has_with : Bool) → TellsWith tree has_with → MatchOption (first_fault file doubled (option_map (λ (name : ListedName). name.text) listed) has_with) (IsFaultless file tree) (IsFirstTreeFault file tree)
       by (Some x) a listed b has_with c = by_doubled x a
@@ -283,9 +282,9 @@ module _ (file : Name) (tree : List Item) where
       by None a None b false c = by_none a b c
 
 -- a tree without faults exports no name twice
-pub faultless_once : (file : Name) (tree : List Item) → IsFaultless file tree → doubled_name [] (exports_of tree) ≡ None
-faultless_once file tree faultless = by (doubled_name [] (exports_of tree)) (tells_doubled [] (exports_of tree)) refl
+pub faultless_once : (file : Name) (tree : List Item) → IsFaultless file tree → doubled_entry_name [] (exports_of tree) ≡ None
+faultless_once file tree faultless = by (doubled_entry_name [] (exports_of tree)) (tells_doubled [] (exports_of tree)) refl
   where
-    by : (told : Option Text) → TellsDoubled [] (exports_of tree) told → doubled_name [] (exports_of tree) ≡ told → doubled_name [] (exports_of tree) ≡ None
+    by : (told : Option Text) → TellsDoubled [] (exports_of tree) told → doubled_entry_name [] (exports_of tree) ≡ told → doubled_entry_name [] (exports_of tree) ≡ None
     by None it is = is
     by (Some x) it is = let first = by_doubled file tree x it in absurd (faultless first.stage first.place (t.DoubledExport file x) first.there)

@@ -2,12 +2,12 @@
 use Rattle.std.proofs.Common.{◌≡◌, ℕ, ◌+◌, Bool, true, false, List, [], ◌∷◌, ◌++◌, Some, None, length, refl, ap, sym, ◌∙◌, map}
 use Rattle.std.specs.Prelude.{◌||◌}
 use Rattle.std.specs.List.{flat_map, list_any}
-use Rattle.bundle_tree_piece.specs.Item as h
-use Rattle.bundle_tree_piece.specs.Item.{Item, Head}
+use Rattle.bundle_syntax.specs.Item as h
+use Rattle.bundle_syntax.specs.Item.{Item, Head}
 use Rattle.bundle_rules.specs.Nodes.{Text, in_field, parts, begins_with}
 use Rattle.bundle_rules.specs.Statements.{placed}
 use Rattle.bundle_rules.specs.Entries.{import_entry, imports_by, imports_of, imports_of_item, text_in, is_module_declaration}
-use Rattle.bundle_tree_places.specs.declared.parts.Part.{Part}
+use Rattle.bundle_tree_places.specs.declared.parts.NodeAt.{NodeAt}
 use Rattle.bundle_tree_places.specs.Heads.{is_import}
 use Rattle.bundle_tree_places.specs.Lengths.{head_at}
 use Rattle.bundle_tree_places.specs.Parted.{part_items}
@@ -41,7 +41,7 @@ imports_none (h.Ident field sym ctxt role ∷ rest) is = refl
 imports_none (h.Hole field ∷ rest) is = refl
 imports_none (h.Close ∷ rest) is = refl
 
-same_head : (a b : Head) → Some a ≡ Some b → a ≡ b
+pub same_head : (a b : Head) → Some a ≡ Some b → a ≡ b
 same_head a b e = cc
 
 -- a specifier imports one entry, by its head
@@ -69,7 +69,7 @@ any_placed : (test : List Item → Bool) (start : ℕ) (nodes : List (List Item)
 any_placed test start [] = refl
 any_placed test start (node ∷ more) = ap (λ b. test node || b) (any_placed test (start + length node) more)
 
-any_parts : (test : List Item → Bool) (tops : List Part) → list_any (λ top. test (part_items top)) tops ≡ list_any test (map part_items tops)
+any_parts : (test : List Item → Bool) (tops : List NodeAt) → list_any (λ top. test (part_items top)) tops ≡ list_any test (map part_items tops)
 any_parts test [] = refl
 any_parts test (top ∷ more) = ap (λ b. test (part_items top) || b) (any_parts test more)
 
@@ -78,5 +78,5 @@ pub imports_placed : (tree : List Item) (tops : List (List Item)) → tops ≡ p
 imports_placed tree tops are = ap (flat_map imports_of_item) are ∙ sym (each_placed imports_of_item 1 (parts tree))
 
 -- whether it has an import or export declaration
-pub declared_placed : (tree : List Item) (tops : List Part) → map part_items tops ≡ parts tree → list_any (λ top. begins_with is_module_declaration (part_items top)) tops ≡ has_declaration tree
+pub declared_placed : (tree : List Item) (tops : List NodeAt) → map part_items tops ≡ parts tree → list_any (λ top. begins_with is_module_declaration (part_items top)) tops ≡ has_declaration tree
 declared_placed tree tops are = any_parts (begins_with is_module_declaration) tops ∙ ap (list_any (begins_with is_module_declaration)) are ∙ sym (any_placed (begins_with is_module_declaration) 1 (parts tree))

@@ -2,22 +2,22 @@
 use Rattle.std.specs.Prelude.{◌≡◌, ℕ, zero, suc, List, [], ◌∷◌, Option, Some, None, option_map, map, bytes_eq, if◌then◌else◌}
 use Rattle.std.specs.List.{flat_map}
 use Rattle.std.specs.Borrow.{Bor}
-use Rattle.bundle_tree_piece.specs.Item as h
-use Rattle.bundle_tree_piece.specs.Item.{Item, Head}
+use Rattle.bundle_syntax.specs.Item as h
+use Rattle.bundle_syntax.specs.Item.{Item, Head}
 use Rattle.bundle_rules.specs.Nodes.{Text, begins_with, child, in_field, string_of}
 use Rattle.bundle_rules.specs.Entries as e
 use Rattle.bundle_rules.specs.Statements.{default_name}
 use Rattle.bundle_rules.specs.Faults.{is_named_specifier}
 use Rattle.bundle_link_tables.specs.TablesOf.{import_entry_of}
-use Rattle.bundle_link_tables.specs.declared.table.Import.{Import}
+use Rattle.bundle_link_tables.specs.declared.table.ImportRef.{ImportRef}
 use Rattle.indexmap.specs.IndexMap.{IndexMap, get_by}
 
 -- the import that binds a name
-abbrev pub import_by : {S : Type 0} → IndexMap (Bor Text) Import S → Text → Option e.ImportEntry
+abbrev pub import_by : {S : Type 0} → IndexMap (Bor Text) ImportRef S → Text → Option e.ImportEntry
 import_by locals x = option_map import_entry_of (get_by (λ k. bytes_eq x k.now) locals)
 
 -- a table of locals finds the import that binds a name, of these
-abbrev pub Finds : {S : Type 0} → IndexMap (Bor Text) Import S → List e.ImportEntry → Type 0
+abbrev pub Finds : {S : Type 0} → IndexMap (Bor Text) ImportRef S → List e.ImportEntry → Type 0
 Finds locals imports = (x : Text) → import_by locals x ≡ e.import_of imports x
 
 -- a text by itself, if there is one
@@ -68,6 +68,6 @@ named_by_head look h.ExportDefaultExpr item = e.Local default_name default_name 
 named_by_head look _ item = []
 
 -- what a top item exports under a name
-abbrev pub named_by : (Text → Option e.ImportEntry) → List Item → List e.ExportEntry
-named_by look (h.Open field head ∷ rest) = named_by_head look head (h.Open field head ∷ rest)
-named_by look _ = []
+abbrev pub exports_named : (Text → Option e.ImportEntry) → List Item → List e.ExportEntry
+exports_named look (h.Open field head ∷ rest) = named_by_head look head (h.Open field head ∷ rest)
+exports_named look _ = []

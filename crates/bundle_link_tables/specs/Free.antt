@@ -1,8 +1,8 @@
 -- What the table of denotations tells of names: which stand where nothing binds them, and which the top binds.
 use Rattle.std.specs.Prelude.{ℕ, Bool, true, false, ◌==◌, ◌&&◌, ◌||◌, not, is_some, List, [], ◌∷◌, ◌++◌, Option, Some, None, bytes_eq, slice_get, slice_index_or, if◌then◌else◌}
 use Rattle.std.specs.List.{flat_map}
-use Rattle.bundle_tree_piece.specs.Item as h
-use Rattle.bundle_tree_piece.specs.Item.{Item}
+use Rattle.bundle_syntax.specs.Item as h
+use Rattle.bundle_syntax.specs.Item.{Item}
 use Rattle.bundle_rules.specs.Declarations.{is_nameless_default}
 use Rattle.bundle_scope_denote.specs.declared.table.Binding.{Binding}
 use Rattle.bundle_scope_denote.specs.declared.table.Denoted.{Denoted}
@@ -18,17 +18,18 @@ abbrev pub frees : ℕ → Denoted → Bool
 frees place entry = entry.place == place && not (is_some entry.binding)
 
 -- whether it is true of a place
-abbrev pub is_marked : List Bool → ℕ → Bool
-is_marked free place = slice_index_or free place false
+abbrev pub is_place_marked : List Bool → ℕ → Bool
+is_place_marked free place = slice_index_or free place false
 
 -- whether this is an identifier of this symbol
-abbrev pub is_called : Text → Option Item → Bool
-is_called x (Some (h.Ident field sym ctxt role)) = bytes_eq x sym
-is_called x _ = false
+abbrev pub is_ident_called : Text → Option Item → Bool
+is_ident_called x (Some (h.Ident field sym ctxt role)) = bytes_eq x sym
+is_ident_called x _ = false
 
 -- whether an entry is of a name of this symbol, and denotes a global
 abbrev pub frees_name : List Item → Text → Denoted → Bool
-frees_name tree x entry = is_called x (slice_get tree entry.place) && not (is_some entry.binding)
+frees_name tree x entry =
+    is_ident_called x (slice_get tree entry.place) && not (is_some entry.binding)
 
 -- whether a scope is the top, or that of the parameters which a CommonJS module has there
 abbrev pub is_top_kind : ScopeKind → Bool

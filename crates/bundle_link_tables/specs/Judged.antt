@@ -1,7 +1,7 @@
 -- The first fault of a tree by itself, as it is told.
 use Rattle.std.specs.Prelude.{Bool, true, false, ◌||◌, not, List, [], ◌∷◌, ◌++◌, Option, Some, None, option_map, find, if◌then◌else◌}
 use Rattle.bundle_tree_names.specs.FileName.{Name}
-use Rattle.bundle_tree_piece.specs.Item.{Item}
+use Rattle.bundle_syntax.specs.Item.{Item}
 use Rattle.bundle_rules.specs.Nodes.{Text, has_text}
 use Rattle.bundle_rules.specs.Bound.{top_names}
 use Rattle.bundle_rules.specs.Entries.{ExportEntry}
@@ -9,9 +9,9 @@ use Rattle.bundle_rules.specs.Faults as t
 use Rattle.bundle_rules.specs.Faults.{Fault, ListedName, entry_name}
 
 -- the first name that an entry before it has, or that is among those met
-abbrev pub doubled_name : List Text → List ExportEntry → Option Text
-doubled_name met [] = None
-doubled_name met (entry ∷ rest) = elim (entry_name entry) [ None ↦ doubled_name met rest | Some x ↦ if has_text x met then Some x else doubled_name (met ++ x ∷ []) rest ]
+abbrev pub doubled_entry_name : List Text → List ExportEntry → Option Text
+doubled_entry_name met [] = None
+doubled_entry_name met (entry ∷ rest) = elim (entry_name entry) [ None ↦ doubled_entry_name met rest | Some x ↦ if has_text x met then Some x else doubled_entry_name (met ++ x ∷ []) rest ]
 
 -- whether a listed name is a string, or none of those that are declared
 abbrev pub is_undeclared : (Text → Bool) → ListedName → Bool

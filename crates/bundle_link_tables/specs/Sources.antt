@@ -1,8 +1,8 @@
 -- What a top item asks for.
 use Rattle.std.specs.Prelude.{◌≡◌, Bool, List, [], ◌∷◌, bytes_eq, flat_map, if◌then◌else◌}
 use Rattle.std.specs.Borrow.{Bor}
-use Rattle.bundle_tree_piece.specs.Item as h
-use Rattle.bundle_tree_piece.specs.Item.{Item, Head}
+use Rattle.bundle_syntax.specs.Item as h
+use Rattle.bundle_syntax.specs.Item.{Item, Head}
 use Rattle.bundle_rules.specs.Nodes.{Text, has_text}
 use Rattle.bundle_rules.specs.Entries.{text_in}
 use Rattle.bundle_link_tables.specs.declared.table.Source.{Source}
@@ -21,8 +21,8 @@ abbrev pub HasTexts : {S : Type 0} → IndexSet (Bor Text) S → List Text → T
 HasTexts set texts = (x : Text) → contains_by (λ k. bytes_eq x k.now) set ≡ has_text x texts
 
 -- what a `Source` asks for, and whether that is external
-abbrev pub asked : Source → Text × Bool
-asked source = (source.specifier.now, source.is_external)
+abbrev pub source_asked : Source → Text × Bool
+source_asked source = (source.specifier.now, source.is_external)
 
 -- what is asked for by these and is not external
 abbrev pub unexternal_one : Source → List Text

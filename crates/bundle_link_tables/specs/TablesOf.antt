@@ -1,7 +1,7 @@
 -- What the entries of a table stand for, in the words of the definitions.
 use Rattle.std.specs.Prelude.{Bool, ◌||◌, List, codes}
 use Rattle.std.specs.List.{list_any}
-use Rattle.bundle_tree_piece.specs.Item.{Item, Head}
+use Rattle.bundle_syntax.specs.Item.{Item, Head}
 use Rattle.bundle_rules.specs.Nodes.{Text, begins_with}
 use Rattle.bundle_rules.specs.Bound.{has_free}
 use Rattle.bundle_rules.specs.Statements.{top_items}
@@ -11,22 +11,22 @@ use Rattle.bundle_rules.specs.Faults.{Fault}
 use Rattle.bundle_tree_names.specs.FileName.{Name}
 use Rattle.bundle_link_tables.specs.declared.table.Taken.{Taken}
 use Rattle.bundle_link_tables.specs.declared.table.Taken.TheVariants as t
-use Rattle.bundle_link_tables.specs.declared.table.Import.{Import}
+use Rattle.bundle_link_tables.specs.declared.table.ImportRef.{ImportRef}
 use Rattle.bundle_link_tables.specs.declared.table.Origin.{Origin}
 use Rattle.bundle_link_tables.specs.declared.table.Origin.TheVariants as o
 use Rattle.bundle_link_tables.specs.declared.table.Export.{Export}
 use Rattle.bundle_link_tables.specs.declared.table.AskedName.{AskedName}
 use Rattle.bundle_link_tables.specs.declared.table.RequireCall.{RequireCall}
-use Rattle.bundle_link_tables.specs.declared.table.TreeFault.{TreeFault}
-use Rattle.bundle_link_tables.specs.declared.table.TreeFault.TheVariants as f
+use Rattle.bundle_link_tables.specs.declared.table.FileFault.{FileFault}
+use Rattle.bundle_link_tables.specs.declared.table.FileFault.TheVariants as f
 
 -- what a `Taken` stands for
 abbrev pub taken_of : Taken → e.Taken
 taken_of (t.Named x) = e.Named x.now
 taken_of t.Whole = e.Whole
 
--- the import entry that an `Import` stands for
-abbrev pub import_entry_of : Import → e.ImportEntry
+-- the import entry that an `ImportRef` stands for
+abbrev pub import_entry_of : ImportRef → e.ImportEntry
 import_entry_of import = record { local = import.local.now; specifier = import.specifier.now; taken = taken_of import.taken }
 
 -- what an import specifier with this head imports of the source
@@ -59,7 +59,7 @@ abbrev pub uses_common_js : List Item → Bool
 uses_common_js tree = has_free tree (codes "require") || (has_free tree (codes "module") || has_free tree (codes "exports"))
 
 -- what is wrong with a file that has such a fault
-abbrev pub fault_in : Name → TreeFault → Fault
+abbrev pub fault_in : Name → FileFault → Fault
 fault_in file (f.DoubledExport name) = g.DoubledExport file name.now
 fault_in file (f.UndeclaredExport name) = g.UndeclaredExport file name.now
 fault_in file f.With = g.WithStatement file

@@ -1,6 +1,6 @@
 -- Uses of imported names in the own statements of a module, with the reads around each.
-use Rattle.std.specs.Prelude.{ℕ, zero, suc, ◌+◌, ◌-◌, ◌==◌, ◌&&◌, Bool, true, false, not, is_some, List, [], ◌∷◌, Option, Some, None, drop, filter, map, take, if◌then◌else◌}
-use Rattle.bundle_tree_piece.specs.Item.{Item}
+use Rattle.std.specs.Prelude.{ℕ, zero, suc, ◌+◌, ◌-◌, ◌==◌, ◌&&◌, Bool, false, is_some, List, [], ◌∷◌, Option, Some, None, drop, filter, map, take, if◌then◌else◌}
+use Rattle.bundle_syntax.specs.Item.{Item}
 use Rattle.bundle_rules.specs.Places.{Around, Occurrence, occurrences, path_at}
 use Rattle.bundle_rules.specs.Scopes.{Es}
 use Rattle.bundle_rules.specs.Declarations.{BySymbol}
@@ -10,7 +10,7 @@ use Rattle.bundle_rules.specs.Nodes.{Text}
 use Rattle.bundle_rules.specs.Entries.{import_of, imports_of}
 use Rattle.bundle_rules.specs.Reads.{read_word}
 use Rattle.bundle_tree_places.specs.Stated.{is_in_statement}
-use Rattle.bundle_link_tables.specs.declared.table.Read.{Read}
+use Rattle.bundle_link_tables.specs.declared.table.MemberRead.{MemberRead}
 use Rattle.bundle_link_tables.specs.declared.table.Use.{Use}
 
 -- the words of the reads around a place, innermost first: each begins right before what it reads of
@@ -46,7 +46,7 @@ abbrev pub uses_of : List Item → List UseEntry
 uses_of tree = map (use_of tree) (filter (is_use tree) (occurrences tree))
 
 -- the name of a read
-abbrev pub name_read : Read → Text
+abbrev pub name_read : MemberRead → Text
 name_read read = read.name.now
 
 -- the use that a `Use` stands for, by the names of all reads
@@ -54,11 +54,11 @@ abbrev pub use_by : List Text → Use → UseEntry
 use_by names one = record { place = one.place; local = one.local.now; words = take one.count (drop one.first_read names) }
 
 -- the use that a `Use` stands for
-abbrev pub use_entry_of : List Read → Use → UseEntry
+abbrev pub use_entry_of : List MemberRead → Use → UseEntry
 use_entry_of reads one = use_by (map name_read reads) one
 
 -- the place of a read
-abbrev pub place_read : Read → ℕ
+abbrev pub place_read : MemberRead → ℕ
 place_read read = read.place
 
 -- the places of the reads of a use, by those of all reads
@@ -75,5 +75,5 @@ abbrev pub begin_in_turn : Use → List ℕ
 begin_in_turn one = places_before one.place one.count
 
 -- the places of the reads of a use
-abbrev pub read_places : List Read → Use → List ℕ
+abbrev pub read_places : List MemberRead → Use → List ℕ
 read_places reads one = places_by (map place_read reads) one

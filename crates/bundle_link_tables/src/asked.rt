@@ -5,15 +5,15 @@ ghost use Rattle.std.specs.List.{flat_map, list_any};
 ghost use Rattle.bundle_rules.specs.Entries.{imports_of_item};
 ghost use Rattle.bundle_rules.specs.Faults.{asked_by_export, asked_by_import};
 ghost use Rattle.bundle_link_tables.specs.Asked.{asked_in, is_given_on};
-ghost use Rattle.bundle_link_tables.specs.Exported.{import_by, named_by};
+ghost use Rattle.bundle_link_tables.specs.Exported.{import_by, exports_named};
 ghost use Rattle.bundle_tree_places.specs.Parted.{part_items};
 ghost use Rattle.bundle_link_tables.specs.TablesOf.{asked_name_of, export_entry_of, import_entry_of};
 
 use crate::exports::add_exports;
 use crate::imports::add_imports;
-use crate::table::{AskedName, Export, Import, Origin, Taken};
+use crate::table::{AskedName, Export, ImportRef, Origin, Taken};
 use bundle_scope_denote::texts::TextMap;
-use bundle_tree_places::parts::Part;
+use bundle_tree_places::parts::NodeAt;
 use std::alloc::{AllocError, Global};
 
 /// The names that a module's top items ask of other modules, in the order of the source, where these are their imports and
@@ -21,15 +21,15 @@ use std::alloc::{AllocError, Global};
 /// alone ask.
 pub(crate) fn asked_by<'a>(
     alloc: Global,
-    tops: &[Part<'_, 'a>],
-    imports: &[Import<'a>],
+    tops: &[NodeAt<'_, 'a>],
+    imports: &[ImportRef<'a>],
     exports: &[Export<'a>],
-    locals: &TextMap<&'a str, Import<'a>>,
+    locals: &TextMap<&'a str, ImportRef<'a>>,
 ) -> Result<Vec<AskedName<'a>>, AllocError>
     requires imports { map import_entry_of imports.now
         ≡ flat_map imports_of_item (map part_items tops.now) }
     requires exports { map export_entry_of exports.now
-        ≡ flat_map (named_by (import_by locals.now)) (map part_items tops.now) }
+        ≡ flat_map (exports_named (import_by locals.now)) (map part_items tops.now) }
     ensures { IfOk result (λ asked.
         map asked_name_of asked.items
         ≡ flat_map (asked_in (import_by locals.now)) (map part_items tops.now)) }
@@ -62,8 +62,8 @@ fn is_indirect(export: Export) -> bool
 // The names that top items ask of other modules, item by item.
 fn asked_of<'a>(
     alloc: Global,
-    tops: &[Part<'_, 'a>],
-    locals: &TextMap<&'a str, Import<'a>>,
+    tops: &[NodeAt<'_, 'a>],
+    locals: &TextMap<&'a str, ImportRef<'a>>,
 ) -> Result<Vec<AskedName<'a>>, AllocError>
     ensures { IfOk result (λ asked.
         map asked_name_of asked.items
@@ -80,8 +80,8 @@ fn asked_of<'a>(
 fn add_asked<'a>(
     alloc: Global,
     asked: &mut Vec<AskedName<'a>>,
-    item: Part<'_, 'a>,
-    locals: &TextMap<&'a str, Import<'a>>,
+    item: NodeAt<'_, 'a>,
+    locals: &TextMap<&'a str, ImportRef<'a>>,
 ) -> Result<(), AllocError>
     ensures { OnOk result
         (map asked_name_of asked.new.items
@@ -96,7 +96,7 @@ fn add_asked<'a>(
 fn add_imported<'a>(
     alloc: Global,
     asked: &mut Vec<AskedName<'a>>,
-    item: Part<'_, 'a>,
+    item: NodeAt<'_, 'a>,
 ) -> Result<(), AllocError>
     ensures { OnOk result
         (map asked_name_of asked.new.items
@@ -109,7 +109,7 @@ fn add_imported<'a>(
 }
 
 // Adds what imports ask for.
-fn add_all<'a>(asked: &mut Vec<AskedName<'a>>, imports: &[Import<'a>]) -> Result<(), AllocError>
+fn add_all<'a>(asked: &mut Vec<AskedName<'a>>, imports: &[ImportRef<'a>]) -> Result<(), AllocError>
     ensures { OnOk result
         (map asked_name_of asked.new.items
         ≡ map asked_name_of asked.old.items
@@ -122,7 +122,10 @@ fn add_all<'a>(asked: &mut Vec<AskedName<'a>>, imports: &[Import<'a>]) -> Result
 }
 
 // Adds what an import asks for, unless it takes the whole.
-fn add_by_import<'a>(asked: &mut Vec<AskedName<'a>>, import: Import<'a>) -> Result<(), AllocError>
+fn add_by_import<'a>(
+    asked: &mut Vec<AskedName<'a>>,
+    import: ImportRef<'a>,
+) -> Result<(), AllocError>
     ensures { OnOk result (map asked_name_of asked.new.items
         ≡ map asked_name_of asked.old.items ++ asked_by_import (import_entry_of import.entry)) }
 {
@@ -139,13 +142,13 @@ fn add_by_import<'a>(asked: &mut Vec<AskedName<'a>>, import: Import<'a>) -> Resu
 fn add_exported<'a>(
     alloc: Global,
     asked: &mut Vec<AskedName<'a>>,
-    item: Part<'_, 'a>,
-    locals: &TextMap<&'a str, Import<'a>>,
+    item: NodeAt<'_, 'a>,
+    locals: &TextMap<&'a str, ImportRef<'a>>,
 ) -> Result<(), AllocError>
     ensures { OnOk result
         (map asked_name_of asked.new.items
         ≡ map asked_name_of asked.old.items
-        ++ flat_map asked_by_export (named_by (import_by locals.now) (part_items item.entry))) }
+        ++ flat_map asked_by_export (exports_named (import_by locals.now) (part_items item.entry))) }
 {
     let mut exports = Vec::new(alloc);
     add_exports(alloc, &mut exports, item, locals)?;

@@ -1,14 +1,14 @@
 //! Literal calls of `require`.
 
 ghost use Rattle.std.specs.Prelude.{◌≡◌, ◌&&◌, ◌++◌, ◌+◌, ◌-◌, ◌<◌, ◌^◌, drop, length, map, not, filter, option_map, bytes_eq, if◌then◌else◌, [], IfOk, OnOk};
-ghost use Rattle.bundle_tree_piece.specs.Item.{item_of};
+ghost use Rattle.bundle_syntax.specs.Item.{item_of};
 ghost use Rattle.bundle_rules.specs.Declarations.{BySymbol};
 ghost use Rattle.bundle_rules.specs.Scopes.{Es};
-ghost use Rattle.bundle_scope_denote.specs.Listed.{IsTable};
+ghost use Rattle.bundle_scope_denote.specs.Listed.{IsDenotationTable};
 ghost use Rattle.bundle_rules.specs.Bound as bound;
 ghost use Rattle.bundle_rules.specs.Entries as entries;
 ghost use Rattle.bundle_rules.specs.Entries.{Settings, call_at, ends, is_call, is_end, is_plain_argument, is_require_name, require_calls, required_at};
-ghost use Rattle.bundle_link_tables.specs.Free.{is_marked};
+ghost use Rattle.bundle_link_tables.specs.Free.{is_place_marked};
 ghost use Rattle.bundle_tree_places.specs.Heads.{begins};
 ghost use Rattle.bundle_link_tables.specs.Sources.{HasTexts};
 ghost use Rattle.bundle_link_tables.specs.TablesOf.{call_entry_of};
@@ -18,7 +18,7 @@ use crate::free::{free_places, is_marked};
 use crate::table::RequireCall;
 use bundle_scope_denote::Denotations;
 use bundle_scope_denote::texts::TextSet;
-use bundle_tree_piece::{Node, Piece};
+use bundle_syntax::{Node, Piece};
 use bundle_tree_places::parts::{behind, string_of};
 use std::alloc::{AllocError, Global};
 
@@ -35,7 +35,7 @@ pub fn linked_calls<'a>(
         (settings : Settings) →
         settings.require ≡ require →
         HasTexts external.now settings.external →
-        IsTable BySymbol Es (map item_of pieces.now) denotations.now →
+        IsDenotationTable BySymbol Es (map item_of pieces.now) denotations.now →
         map call_entry_of calls.items
         ≡ entries.linked_calls settings (bound.is_free (map item_of pieces.now))
         (map item_of pieces.now)) }
@@ -78,7 +78,7 @@ fn calls_in<'a>(
 ) -> Result<Vec<RequireCall<'a>>, AllocError>
     ensures { IfOk result (λ calls.
         map call_entry_of calls.items
-        ≡ require_calls (is_marked free.now) (map item_of pieces.now)) }
+        ≡ require_calls (is_place_marked free.now) (map item_of pieces.now)) }
 {
     let mut calls = Vec::new(alloc);
     for place in 0..pieces.len() {
@@ -98,7 +98,7 @@ fn add_call<'a>(
     ensures { OnOk result
         (map call_entry_of calls.new.items
         ≡ map call_entry_of calls.old.items
-        ++ call_at (is_marked free.now) place (required_at (map item_of pieces.now))) }
+        ++ call_at (is_place_marked free.now) place (required_at (map item_of pieces.now))) }
 {
     if let Some(specifier) = required_text(pieces) {
         if is_marked(free, place + 1) {

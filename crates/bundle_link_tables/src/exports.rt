@@ -2,24 +2,24 @@
 
 ghost use Rattle.std.specs.Prelude.{◌≡◌, ◌++◌, ◌∷◌, [], ◌+◌, ◌-◌, ◌<◌, ◌≤◌, ◌^◌, zero, map, IfOk, OnOk};
 ghost use Rattle.std.specs.List.{flat_map};
-ghost use Rattle.bundle_tree_piece.specs.Item.{head_of, item_of};
+ghost use Rattle.bundle_syntax.specs.Item.{head_of, item_of};
 ghost use Rattle.bundle_rules.specs.Nodes as nodes;
 ghost use Rattle.bundle_rules.specs.Nodes.{begins_with, Text};
 ghost use Rattle.bundle_rules.specs.Entries as e;
 ghost use Rattle.bundle_rules.specs.Entries.{given_on, names_bound};
 ghost use Rattle.bundle_link_tables.specs.Exported as exported;
-ghost use Rattle.bundle_link_tables.specs.Exported.{depth_in, export_by, import_by, locals_named, named_by, named_by_head, named_declared, named_here, named_in_list, text_list};
+ghost use Rattle.bundle_link_tables.specs.Exported.{depth_in, export_by, import_by, locals_named, exports_named, named_by_head, named_declared, named_here, named_in_list, text_list};
 ghost use Rattle.bundle_rules.specs.Faults.{is_named_specifier};
 ghost use Rattle.bundle_tree_places.specs.Heads.{is_namespace_specifier, is_variables};
 ghost use Rattle.bundle_tree_places.specs.Parted.{part_items};
 ghost use Rattle.bundle_link_tables.specs.TablesOf.{entry_by_origin, export_entry_of};
 
-use crate::table::{Export, Import, Origin, Taken};
+use crate::table::{Export, ImportRef, Origin, Taken};
 use bundle_scope_denote::texts::TextMap;
-use bundle_tree_piece::{Node, Piece, Role};
+use bundle_syntax::{Node, Piece, Role};
 use bundle_tree_places::nodes::is_in_pattern;
 use bundle_tree_places::parts::{
-    Part, child, child_of, in_field, name_of, node_of, renamed_text, string_of, text_in,
+    NodeAt, child, child_of, in_field, name_of, node_of, renamed_text, string_of, text_in,
 };
 use std::alloc::{AllocError, Global};
 
@@ -30,12 +30,12 @@ const DEFAULT: &str = "default";
 /// name that imports bind.
 pub fn exports_of<'a>(
     alloc: Global,
-    tops: &[Part<'_, 'a>],
-    locals: &TextMap<&'a str, Import<'a>>,
+    tops: &[NodeAt<'_, 'a>],
+    locals: &TextMap<&'a str, ImportRef<'a>>,
 ) -> Result<Vec<Export<'a>>, AllocError>
     ensures { IfOk result (λ exports.
         map export_entry_of exports.items
-        ≡ flat_map (named_by (import_by locals.now)) (map part_items tops.now)) }
+        ≡ flat_map (exports_named (import_by locals.now)) (map part_items tops.now)) }
 {
     let mut exports = Vec::new(alloc);
     for top in tops {
@@ -49,13 +49,13 @@ pub fn exports_of<'a>(
 pub(crate) fn add_exports<'a>(
     alloc: Global,
     exports: &mut Vec<Export<'a>>,
-    item: Part<'_, 'a>,
-    locals: &TextMap<&'a str, Import<'a>>,
+    item: NodeAt<'_, 'a>,
+    locals: &TextMap<&'a str, ImportRef<'a>>,
 ) -> Result<(), AllocError>
     ensures { OnOk result
         (map export_entry_of exports.new.items
         ≡ map export_entry_of exports.old.items
-        ++ named_by (import_by locals.now) (part_items item.entry)) }
+        ++ exports_named (import_by locals.now) (part_items item.entry)) }
 {
     if let Some(node) = node_of(item.pieces) {
         add_by(alloc, exports, node, item, locals)?;
@@ -68,8 +68,8 @@ fn add_by<'a>(
     alloc: Global,
     exports: &mut Vec<Export<'a>>,
     node: Node<'a>,
-    item: Part<'_, 'a>,
-    locals: &TextMap<&'a str, Import<'a>>,
+    item: NodeAt<'_, 'a>,
+    locals: &TextMap<&'a str, ImportRef<'a>>,
 ) -> Result<(), AllocError>
     ensures { OnOk result
         (map export_entry_of exports.new.items
@@ -118,7 +118,7 @@ fn default_declared<'a>(declaration: &[Piece<'a>]) -> &'a str
 fn add_declared<'a>(
     alloc: Global,
     exports: &mut Vec<Export<'a>>,
-    declaration: Part<'_, 'a>,
+    declaration: NodeAt<'_, 'a>,
 ) -> Result<(), AllocError>
     ensures { OnOk result
         (map export_entry_of exports.new.items
@@ -154,7 +154,7 @@ fn begins_variables(pieces: &[Piece]) -> bool
 fn add_variables<'a>(
     alloc: Global,
     exports: &mut Vec<Export<'a>>,
-    declaration: Part<'_, 'a>,
+    declaration: NodeAt<'_, 'a>,
 ) -> Result<(), AllocError>
     ensures { OnOk result
         (map export_entry_of exports.new.items
@@ -169,7 +169,10 @@ fn add_variables<'a>(
 }
 
 // Adds the names that a declarator binds.
-fn add_bound<'a>(exports: &mut Vec<Export<'a>>, declarator: Part<'_, 'a>) -> Result<(), AllocError>
+fn add_bound<'a>(
+    exports: &mut Vec<Export<'a>>,
+    declarator: NodeAt<'_, 'a>,
+) -> Result<(), AllocError>
     ensures { OnOk result
         (map export_entry_of exports.new.items
         ≡ map export_entry_of exports.old.items
@@ -219,8 +222,8 @@ fn depth_behind(depth: usize, piece: Piece) -> usize
 fn add_list<'a>(
     alloc: Global,
     exports: &mut Vec<Export<'a>>,
-    item: Part<'_, 'a>,
-    locals: &TextMap<&'a str, Import<'a>>,
+    item: NodeAt<'_, 'a>,
+    locals: &TextMap<&'a str, ImportRef<'a>>,
 ) -> Result<(), AllocError>
     ensures { OnOk result
         (map export_entry_of exports.new.items
@@ -238,7 +241,7 @@ fn add_list<'a>(
 // Adds the specifiers of an export list with `from`.
 fn add_from<'a>(
     exports: &mut Vec<Export<'a>>,
-    specifiers: &[Part<'_, 'a>],
+    specifiers: &[NodeAt<'_, 'a>],
     source: &'a str,
 ) -> Result<(), AllocError>
     ensures { OnOk result
@@ -254,7 +257,7 @@ fn add_from<'a>(
 
 // The export of a specifier of an export list with `from`.
 #[tactic(auto, using(std::proofs::lemmas::Grind::common_steps, crate::proofs::ExportLemmas::from_specifier))]
-fn export_from<'a>(specifier: Part<'_, 'a>, source: &'a str) -> Export<'a>
+fn export_from<'a>(specifier: NodeAt<'_, 'a>, source: &'a str) -> Export<'a>
     ensures { export_entry_of result ≡ e.entry_from source.now (part_items specifier.entry) }
 {
     let first = text_in(specifier.pieces, 0);
@@ -288,8 +291,8 @@ fn begins_namespace(pieces: &[Piece]) -> bool
 // Adds the specifiers of an export list without `from`; `* as n` says nothing there.
 fn add_here<'a>(
     exports: &mut Vec<Export<'a>>,
-    specifiers: &[Part<'_, 'a>],
-    locals: &TextMap<&'a str, Import<'a>>,
+    specifiers: &[NodeAt<'_, 'a>],
+    locals: &TextMap<&'a str, ImportRef<'a>>,
 ) -> Result<(), AllocError>
     ensures { OnOk result
         (map export_entry_of exports.new.items
@@ -320,7 +323,10 @@ pub fn begins_named(pieces: &[Piece]) -> bool
 }
 
 // The export of a specifier of an export list without `from`.
-fn export_here<'a>(specifier: Part<'_, 'a>, locals: &TextMap<&'a str, Import<'a>>) -> Export<'a>
+fn export_here<'a>(
+    specifier: NodeAt<'_, 'a>,
+    locals: &TextMap<&'a str, ImportRef<'a>>,
+) -> Export<'a>
     ensures { export_entry_of result
         ≡ export_by (import_by locals.now) (part_items specifier.entry) }
 {
@@ -331,13 +337,13 @@ fn export_here<'a>(specifier: Part<'_, 'a>, locals: &TextMap<&'a str, Import<'a>
 }
 
 // Where a name of the module comes from: what was imported by name is given on, all else is local.
-fn origin_of<'a>(locals: &TextMap<&'a str, Import<'a>>, of: &'a str) -> Origin<'a>
+fn origin_of<'a>(locals: &TextMap<&'a str, ImportRef<'a>>, of: &'a str) -> Origin<'a>
     ensures { (name : Text) →
         entry_by_origin name result ≡ given_on name of.now (import_by locals.now of.now) }
 {
     match locals.get(&of) {
         Some(
-            Import {
+            ImportRef {
                 specifier,
                 taken: Taken::Named(x),
                 ..

@@ -2,21 +2,21 @@
 
 ghost use Rattle.std.specs.Prelude.{◌≡◌, [], None, map, option_map, bytes_eq, IfOk};
 ghost use Rattle.bundle_tree_names.specs.FileName.{Name};
-ghost use Rattle.bundle_tree_piece.specs.Item.{item_of};
+ghost use Rattle.bundle_syntax.specs.Item.{item_of};
 ghost use Rattle.bundle_rules.specs.Bundle.{is_with};
 ghost use Rattle.bundle_rules.specs.Nodes.{has_head, has_text};
 ghost use Rattle.bundle_link_tables.specs.Free.{told_top_names};
 ghost use Rattle.bundle_link_tables.specs.Judged as judged;
-ghost use Rattle.bundle_link_tables.specs.Listed.{listed_as};
+ghost use Rattle.bundle_link_tables.specs.Listed.{export_listed_as};
 ghost use Rattle.bundle_link_tables.specs.TablesOf.{export_entry_of, fault_in};
 ghost use Rattle.indexmap.specs.IndexSet.{contains_by};
 
 use crate::free::top_names;
-use crate::listed::Listed;
-use crate::table::{Export, TreeFault};
+use crate::listed::ExportListName;
+use crate::table::{Export, FileFault};
 use bundle_scope_denote::Denotations;
 use bundle_scope_denote::texts::TextSet;
-use bundle_tree_piece::Piece;
+use bundle_syntax::Piece;
 use bundle_tree_places::nodes::has_with;
 use std::alloc::{AllocError, Global};
 
@@ -28,27 +28,27 @@ pub fn first_fault<'a>(
     pieces: &[Piece<'a>],
     denotations: &Denotations<'a>,
     exports: &[Export<'a>],
-    listed: &[Listed<'a>],
+    listed: &[ExportListName<'a>],
     has_with: bool,
-) -> Result<Option<TreeFault<'a>>, AllocError>
+) -> Result<Option<FileFault<'a>>, AllocError>
     ensures { (file : Name) →
         IfOk result (λ fault.
         option_map (fault_in file) fault
         ≡ judged.first_fault file
-        (judged.doubled_name [] (map export_entry_of exports.now))
+        (judged.doubled_entry_name [] (map export_entry_of exports.now))
         (judged.undeclared_name
         (λ x. has_text x (told_top_names denotations.now (map item_of pieces.now)))
-        (map listed_as listed.now))
+        (map export_listed_as listed.now))
         has_with) }
 {
     if let Some(name) = doubled_name(alloc, exports)? {
-        return Ok(Some(TreeFault::DoubledExport { name }));
+        return Ok(Some(FileFault::DoubledExport { name }));
     }
     if let Some(name) = unbound_name(alloc, pieces, denotations, listed)? {
-        return Ok(Some(TreeFault::UndeclaredExport { name }));
+        return Ok(Some(FileFault::UndeclaredExport { name }));
     }
     if has_with {
-        return Ok(Some(TreeFault::With));
+        return Ok(Some(FileFault::With));
     }
     Ok(None)
 }
@@ -59,19 +59,19 @@ pub fn first_unlisted_fault<'a>(
     alloc: Global,
     pieces: &[Piece<'a>],
     exports: &[Export<'a>],
-) -> Result<Option<TreeFault<'a>>, AllocError>
+) -> Result<Option<FileFault<'a>>, AllocError>
     ensures { (file : Name) →
         IfOk result (λ fault.
         option_map (fault_in file) fault
         ≡ judged.first_fault file
-        (judged.doubled_name [] (map export_entry_of exports.now)) None
+        (judged.doubled_entry_name [] (map export_entry_of exports.now)) None
         (has_head is_with (map item_of pieces.now))) }
 {
     if let Some(name) = doubled_name(alloc, exports)? {
-        return Ok(Some(TreeFault::DoubledExport { name }));
+        return Ok(Some(FileFault::DoubledExport { name }));
     }
     if has_with(pieces) {
-        return Ok(Some(TreeFault::With));
+        return Ok(Some(FileFault::With));
     }
     Ok(None)
 }
@@ -81,7 +81,7 @@ pub fn first_unlisted_fault<'a>(
 fn doubled_name<'a>(alloc: Global, exports: &[Export<'a>]) -> Result<Option<&'a str>, AllocError>
     ensures { IfOk result (λ found.
         option_map (λ name. name.now) found
-        ≡ judged.doubled_name [] (map export_entry_of exports.now)) }
+        ≡ judged.doubled_entry_name [] (map export_entry_of exports.now)) }
 {
     if exports.len() < 2 {
         return Ok(None);
@@ -103,13 +103,13 @@ fn unbound_name<'a>(
     alloc: Global,
     pieces: &[Piece<'a>],
     denotations: &Denotations<'a>,
-    listed: &[Listed<'a>],
+    listed: &[ExportListName<'a>],
 ) -> Result<Option<&'a str>, AllocError>
     ensures { IfOk result (λ found.
         option_map (λ name. name.now) found
         ≡ judged.undeclared_name
         (λ x. has_text x (told_top_names denotations.now (map item_of pieces.now)))
-        (map listed_as listed.now)) }
+        (map export_listed_as listed.now)) }
 {
     if listed.is_empty() {
         return Ok(None);
@@ -119,10 +119,10 @@ fn unbound_name<'a>(
 }
 
 // The first name in an export list without `from` that is a string, or that is not declared.
-fn undeclared_name<'a>(listed: &[Listed<'a>], declared: &TextSet<&str>) -> Option<&'a str>
+fn undeclared_name<'a>(listed: &[ExportListName<'a>], declared: &TextSet<&str>) -> Option<&'a str>
     ensures { option_map (λ name. name.now) result
         ≡ judged.undeclared_name (λ x. contains_by (λ k. bytes_eq x k.now) declared.now)
-        (map listed_as listed.now) }
+        (map export_listed_as listed.now) }
 {
     for name in listed {
         if is_undeclared(*name, declared) {
@@ -133,10 +133,10 @@ fn undeclared_name<'a>(listed: &[Listed<'a>], declared: &TextSet<&str>) -> Optio
 }
 
 // Whether a listed name is a string, or not declared.
-fn is_undeclared(listed: Listed, declared: &TextSet<&str>) -> bool
+fn is_undeclared(listed: ExportListName, declared: &TextSet<&str>) -> bool
     ensures { result
         ≡ judged.is_undeclared (λ x. contains_by (λ k. bytes_eq x k.now) declared.now)
-        (listed_as listed.entry) }
+        (export_listed_as listed.entry) }
 {
     listed.is_string || !declared.has_text(listed.name)
 }

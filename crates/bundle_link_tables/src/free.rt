@@ -2,21 +2,21 @@
 
 ghost use Rattle.std.specs.Prelude.{◌≡◌, ◌&&◌, ◌||◌, ◌++◌, ◌<◌, ℕ, length, map, nat_lt, slice_get, List, IfOk, OnOk};
 ghost use Rattle.std.specs.List.{flat_map, list_any};
-ghost use Rattle.bundle_tree_piece.specs.Item.{item_of};
+ghost use Rattle.bundle_syntax.specs.Item.{item_of};
 ghost use Rattle.bundle_rules.specs.Declarations.{BySymbol};
 ghost use Rattle.bundle_rules.specs.Scopes.{Es};
-ghost use Rattle.bundle_scope_denote.specs.Listed.{IsTable};
+ghost use Rattle.bundle_scope_denote.specs.Listed.{IsDenotationTable};
 ghost use Rattle.bundle_rules.specs.Bound as bound;
 ghost use Rattle.bundle_rules.specs.Nodes.{Text};
 ghost use Rattle.bundle_link_tables.specs.Exported.{text_list};
 ghost use Rattle.bundle_link_tables.specs.Free as Free;
-ghost use Rattle.bundle_link_tables.specs.Free.{declared_at_top, frees, is_marked, is_top_scope, names_nothing, symbol_at_top, told_top_names};
+ghost use Rattle.bundle_link_tables.specs.Free.{declared_at_top, frees, is_place_marked, is_top_scope, names_nothing, symbol_at_top, told_top_names};
 ghost use Rattle.bundle_link_tables.specs.Sources.{HasTexts};
 ghost use Rattle.bundle_link_tables.specs.TablesOf.{uses_common_js};
 
 use bundle_scope_denote::texts::TextSet;
 use bundle_scope_denote::{Denotations, Denoted, Scope, ScopeKind};
-use bundle_tree_piece::{Node, Piece};
+use bundle_syntax::{Node, Piece};
 use bundle_tree_places::parts::behind;
 use std::alloc::{AllocError, Global};
 
@@ -29,7 +29,7 @@ pub fn free_places(
     count: usize,
     denotations: &Denotations,
 ) -> Result<Vec<bool>, AllocError>
-    ensures { IfOk result (λ free. (place : ℕ) → is_marked free.items place
+    ensures { IfOk result (λ free. (place : ℕ) → is_place_marked free.items place
         ≡ (nat_lt place count && list_any (frees place) denotations.now.occurrences.items)) }
 {
     let mut free = vec![in alloc; false; count]?;
@@ -41,7 +41,7 @@ pub fn free_places(
 
 /// Whether a place is marked.
 pub fn is_marked(marks: &[bool], place: usize) -> bool
-    ensures { result ≡ Free.is_marked marks.now place }
+    ensures { result ≡ Free.is_place_marked marks.now place }
 {
     match marks.get(place) {
         Some(is) => *is,
@@ -54,8 +54,8 @@ pub fn is_marked(marks: &[bool], place: usize) -> bool
 fn mark_free(free: &mut Vec<bool>, occurrence: Denoted)
     ensures length { length free.new.items ≡ length free.old.items }
     ensures marked { (place : ℕ) →
-        is_marked free.new.items place
-        ≡ (is_marked free.old.items place
+        is_place_marked free.new.items place
+        ≡ (is_place_marked free.old.items place
         || (nat_lt place (length free.old.items) && frees place occurrence)) }
 {
     if occurrence.binding.is_some() {
@@ -69,7 +69,7 @@ fn mark_free(free: &mut Vec<bool>, occurrence: Denoted)
 
 /// Whether a name stands somewhere in a list where nothing binds it.
 pub fn has_free(pieces: &[Piece], denotations: &Denotations, name: &str) -> bool
-    ensures { IsTable BySymbol Es (map item_of pieces.now) denotations.now →
+    ensures { IsDenotationTable BySymbol Es (map item_of pieces.now) denotations.now →
         result ≡ bound.has_free (map item_of pieces.now) name.now }
 {
     some_free(pieces, denotations, name)
@@ -97,7 +97,7 @@ fn frees_name(pieces: &[Piece], occurrence: Denoted, name: &str) -> bool
 // Whether an identifier of this name stands at a place.
 #[tactic(auto, using(std::proofs::lemmas::Grind::common_steps, std::proofs::lemmas::Option::gets, crate::proofs::MarkLemmas::get_mapped))]
 fn is_called(pieces: &[Piece], place: usize, name: &str) -> bool
-    ensures { result ≡ Free.is_called name.now (slice_get (map item_of pieces.now) place) }
+    ensures { result ≡ Free.is_ident_called name.now (slice_get (map item_of pieces.now) place) }
 {
     match pieces.get(place) {
         Some(Piece::Ident { sym, .. }) => name == *sym,
@@ -107,7 +107,7 @@ fn is_called(pieces: &[Piece], place: usize, name: &str) -> bool
 
 /// Whether a `require`, `module` or `exports` stands in a list that nothing binds.
 pub fn names_common_js(pieces: &[Piece], denotations: &Denotations) -> bool
-    ensures { IsTable BySymbol Es (map item_of pieces.now) denotations.now →
+    ensures { IsDenotationTable BySymbol Es (map item_of pieces.now) denotations.now →
         result ≡ uses_common_js (map item_of pieces.now) }
 {
     let first = has_free(pieces, denotations, "require");

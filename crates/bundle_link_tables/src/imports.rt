@@ -2,7 +2,7 @@
 
 ghost use Rattle.std.specs.Prelude.{◌≡◌, ◌++◌, map, IfOk, OnOk};
 ghost use Rattle.std.specs.List.{flat_map, list_any};
-ghost use Rattle.bundle_tree_piece.specs.Item.{head_of, item_of};
+ghost use Rattle.bundle_syntax.specs.Item.{head_of, item_of};
 ghost use Rattle.bundle_rules.specs.Nodes.{begins_with};
 ghost use Rattle.bundle_rules.specs.Entries as entries;
 ghost use Rattle.bundle_rules.specs.Entries.{imports_of_item, import_entry, taken_by};
@@ -10,14 +10,17 @@ ghost use Rattle.bundle_tree_places.specs.Heads.{is_import};
 ghost use Rattle.bundle_tree_places.specs.Parted.{part_items};
 ghost use Rattle.bundle_link_tables.specs.TablesOf.{import_entry_of, taken_of, entry_as};
 
-use crate::table::{Import, Taken};
-use bundle_tree_piece::{Node, Piece};
+use crate::table::{ImportRef, Taken};
+use bundle_syntax::{Node, Piece};
 use bundle_tree_places::nodes::is_module_declaration;
-use bundle_tree_places::parts::{Part, in_field, node_of, renamed_text, text_in};
+use bundle_tree_places::parts::{NodeAt, in_field, node_of, renamed_text, text_in};
 use std::alloc::{AllocError, Global};
 
 /// The imports of a module's top items, in the order of the source.
-pub fn imports_of<'a>(alloc: Global, tops: &[Part<'_, 'a>]) -> Result<Vec<Import<'a>>, AllocError>
+pub fn imports_of<'a>(
+    alloc: Global,
+    tops: &[NodeAt<'_, 'a>],
+) -> Result<Vec<ImportRef<'a>>, AllocError>
     ensures { IfOk result (λ imports.
         map import_entry_of imports.items ≡ flat_map imports_of_item (map part_items tops.now)) }
 {
@@ -32,8 +35,8 @@ pub fn imports_of<'a>(alloc: Global, tops: &[Part<'_, 'a>]) -> Result<Vec<Import
 #[tactic(auto, using(std::proofs::lemmas::Grind::common_steps, crate::proofs::ImportLemmas::imports_here, crate::proofs::ImportLemmas::imports_none))]
 pub(crate) fn add_imports<'a>(
     alloc: Global,
-    imports: &mut Vec<Import<'a>>,
-    item: Part<'_, 'a>,
+    imports: &mut Vec<ImportRef<'a>>,
+    item: NodeAt<'_, 'a>,
 ) -> Result<(), AllocError>
     ensures { OnOk result
         (map import_entry_of imports.new.items
@@ -67,8 +70,8 @@ fn begins_import(pieces: &[Piece]) -> bool
 // Adds what an import specifier imports.
 #[tactic(auto, using(std::proofs::lemmas::Grind::common_steps, crate::proofs::ImportLemmas::entry_some, crate::proofs::ImportLemmas::entry_none))]
 fn add_import<'a>(
-    imports: &mut Vec<Import<'a>>,
-    part: Part<'_, 'a>,
+    imports: &mut Vec<ImportRef<'a>>,
+    part: NodeAt<'_, 'a>,
     specifier: &'a str,
 ) -> Result<(), AllocError>
     ensures { OnOk result
@@ -83,11 +86,11 @@ fn add_import<'a>(
 }
 
 // What an import specifier with this head imports.
-fn import_at<'a>(part: Part<'_, 'a>, node: Node<'a>, specifier: &'a str) -> Import<'a>
+fn import_at<'a>(part: NodeAt<'_, 'a>, node: Node<'a>, specifier: &'a str) -> ImportRef<'a>
     ensures { import_entry_of result
         ≡ entry_as (head_of node.entry) specifier.now (part_items part.entry) }
 {
-    Import {
+    ImportRef {
         local: text_in(part.pieces, 0),
         specifier,
         taken: taken_at(part.pieces, node),
@@ -106,7 +109,7 @@ fn taken_at<'a>(pieces: &[Piece<'a>], node: Node<'a>) -> Taken<'a>
 }
 
 /// Whether one of a module's top items is an import or export declaration.
-pub fn has_declaration(tops: &[Part]) -> bool
+pub fn has_declaration(tops: &[NodeAt]) -> bool
     ensures { result
         ≡ list_any (λ top. begins_with entries.is_module_declaration (part_items top)) tops.now }
 {

@@ -20,6 +20,7 @@ mod walk;
 
 pub use requests::requests_in;
 pub use table::{
-    AskedName, Export, Import, Origin, Read, RequireCall, Source, Tables, Taken, TreeFault, Use,
+    AskedName, Export, FileFault, ImportRef, MemberRead, Origin, RequireCall, Source, Tables,
+    Taken, Use,
 };
 pub use tables::tables_of;

@@ -2,29 +2,32 @@
 
 ghost use Rattle.std.specs.Prelude.{◌≡◌, ◌++◌, map, IfOk, OnOk};
 ghost use Rattle.std.specs.List.{flat_map};
-ghost use Rattle.bundle_tree_piece.specs.Item.{item_of};
+ghost use Rattle.bundle_syntax.specs.Item.{item_of};
 ghost use Rattle.bundle_rules.specs.Faults.{is_string_head, names_listed};
 ghost use Rattle.bundle_rules.specs.Nodes.{begins_with};
 ghost use Rattle.bundle_tree_places.specs.Heads.{is_named_export};
-ghost use Rattle.bundle_link_tables.specs.Listed.{kept_listed, listed_alone, listed_as, lists_names};
+ghost use Rattle.bundle_link_tables.specs.Listed.{kept_listed, listed_alone, export_listed_as, lists_names};
 ghost use Rattle.bundle_tree_places.specs.Parted.{part_items};
 
 use crate::exports::begins_named;
-use bundle_tree_piece::{Node, Piece};
-use bundle_tree_places::parts::{Part, child, in_field, name_of, string_of};
+use bundle_syntax::{Node, Piece};
+use bundle_tree_places::parts::{NodeAt, child, in_field, name_of, string_of};
 use std::alloc::{AllocError, Global};
 
 /// A name in an export list without `from`.
 #[derive(Clone, Copy)]
-pub struct Listed<'a> {
+pub struct ExportListName<'a> {
     pub name: &'a str,
     pub is_string: bool,
 }
 
 /// The names in export lists without `from`, in the order of the source.
-pub fn listed_of<'a>(alloc: Global, tops: &[Part<'_, 'a>]) -> Result<Vec<Listed<'a>>, AllocError>
+pub fn listed_of<'a>(
+    alloc: Global,
+    tops: &[NodeAt<'_, 'a>],
+) -> Result<Vec<ExportListName<'a>>, AllocError>
     ensures { IfOk result (λ listed.
-        map listed_as listed.items ≡ flat_map names_listed (map part_items tops.now)) }
+        map export_listed_as listed.items ≡ flat_map names_listed (map part_items tops.now)) }
 {
     let mut listed = Vec::new(alloc);
     for top in tops {
@@ -37,12 +40,12 @@ pub fn listed_of<'a>(alloc: Global, tops: &[Part<'_, 'a>]) -> Result<Vec<Listed<
 #[tactic(auto, using(std::proofs::lemmas::Grind::common_steps, crate::proofs::ListedLemmas::listed_here, crate::proofs::ListedLemmas::listed_nowhere))]
 fn add_listed<'a>(
     alloc: Global,
-    listed: &mut Vec<Listed<'a>>,
-    item: Part<'_, 'a>,
+    listed: &mut Vec<ExportListName<'a>>,
+    item: NodeAt<'_, 'a>,
 ) -> Result<(), AllocError>
     ensures { OnOk result
-        (map listed_as listed.new.items
-        ≡ map listed_as listed.old.items ++ names_listed (part_items item.entry)) }
+        (map export_listed_as listed.new.items
+        ≡ map export_listed_as listed.old.items ++ names_listed (part_items item.entry)) }
 {
     if !begins_list(item.pieces) {
         return Ok(());
@@ -54,10 +57,13 @@ fn add_listed<'a>(
 }
 
 // Adds the name that a specifier lists.
-fn add_name<'a>(listed: &mut Vec<Listed<'a>>, specifier: Part<'_, 'a>) -> Result<(), AllocError>
+fn add_name<'a>(
+    listed: &mut Vec<ExportListName<'a>>,
+    specifier: NodeAt<'_, 'a>,
+) -> Result<(), AllocError>
     ensures { OnOk result
-        (map listed_as listed.new.items
-        ≡ map listed_as listed.old.items ++ kept_listed (part_items specifier.entry)) }
+        (map export_listed_as listed.new.items
+        ≡ map export_listed_as listed.old.items ++ kept_listed (part_items specifier.entry)) }
 {
     if let Some(name) = listed_at(specifier.pieces) {
         listed.push(name)?;
@@ -66,7 +72,7 @@ fn add_name<'a>(listed: &mut Vec<Listed<'a>>, specifier: Part<'_, 'a>) -> Result
 }
 
 // The name that a specifier lists.
-fn listed_at<'a>(specifier: &[Piece<'a>]) -> Option<Listed<'a>>
+fn listed_at<'a>(specifier: &[Piece<'a>]) -> Option<ExportListName<'a>>
     ensures { listed_alone result ≡ kept_listed (map item_of specifier.now) }
 {
     if !begins_named(specifier) {
@@ -74,7 +80,7 @@ fn listed_at<'a>(specifier: &[Piece<'a>]) -> Option<Listed<'a>>
     }
     let first = child(specifier, 0);
     match name_of(first) {
-        Some(name) => Some(Listed {
+        Some(name) => Some(ExportListName {
             name,
             is_string: begins_string(first),
         }),

@@ -2,25 +2,25 @@
 
 ghost use Rattle.std.specs.Prelude.{◌≡◌, IfOk, Option, filter, map, not};
 ghost use Rattle.std.specs.List.{flat_map};
-ghost use Rattle.bundle_tree_piece.specs.Item.{item_of};
+ghost use Rattle.bundle_syntax.specs.Item.{item_of};
 ghost use Rattle.bundle_rules.specs.Entries as the_entries;
 ghost use Rattle.bundle_rules.specs.Entries.{ImportEntry, declared_requests, requests_of_item};
 ghost use Rattle.bundle_rules.specs.Faults.{entry_name, listed_names, names_listed};
 ghost use Rattle.bundle_rules.specs.Nodes.{Text};
 ghost use Rattle.bundle_rules.specs.Tables.{is_star};
 ghost use Rattle.bundle_tree_places.specs.Parted.{part_items};
-ghost use Rattle.bundle_link_tables.specs.Exported.{named_by};
-ghost use Rattle.bundle_link_tables.specs.Listed.{listed_as};
-ghost use Rattle.bundle_link_tables.specs.Sources.{asked, has_external};
+ghost use Rattle.bundle_link_tables.specs.Exported.{exports_named};
+ghost use Rattle.bundle_link_tables.specs.Listed.{export_listed_as};
+ghost use Rattle.bundle_link_tables.specs.Sources.{source_asked, has_external};
 ghost use Rattle.bundle_link_tables.specs.TablesOf.{export_entry_of};
 
 use crate::exports::exports_of;
-use crate::listed::{Listed, listed_of};
+use crate::listed::{ExportListName, listed_of};
 use crate::sources::sources_of;
 use crate::table::{Export, Source};
 use bundle_scope_denote::texts::{TextMap, TextSet};
-use bundle_tree_piece::Piece;
-use bundle_tree_places::parts::{Part, top_items};
+use bundle_syntax::Piece;
+use bundle_tree_places::parts::{NodeAt, top_items};
 use std::alloc::{AllocError, Global};
 
 /// What a module gives and asks for, whatever its imports bind.
@@ -29,7 +29,7 @@ pub struct Outline<'a> {
     /// What it exports under a name: the names are right, but not where each comes from.
     pub exports: Vec<Export<'a>>,
     pub sources: Vec<Source<'a>>,
-    pub listed: Vec<Listed<'a>>,
+    pub listed: Vec<ExportListName<'a>>,
 }
 
 /// What a module gives and asks for, whatever its imports bind. `external` are the texts that are external.
@@ -43,10 +43,10 @@ pub fn outline_of<'a>(
         ≡ map entry_name
         (filter (λ entry. not (is_star entry)) (the_entries.exports_of (map item_of pieces.now)))) }
     ensures sources { IfOk result (λ outline.
-        map asked outline.sources.items
+        map source_asked outline.sources.items
         ≡ map (has_external external.now) (declared_requests (map item_of pieces.now))) }
     ensures listed { IfOk result (λ outline.
-        map listed_as outline.listed.items ≡ listed_names (map item_of pieces.now)) }
+        map export_listed_as outline.listed.items ≡ listed_names (map item_of pieces.now)) }
 {
     let tops = top_items(alloc, pieces)?;
     let outline = outline_in(alloc, &tops, external)?;
@@ -56,18 +56,18 @@ pub fn outline_of<'a>(
 // The same of the top items of a module: under which names they export does not hang on what imports bind.
 fn outline_in<'a>(
     alloc: Global,
-    tops: &[Part<'_, 'a>],
+    tops: &[NodeAt<'_, 'a>],
     external: &TextSet<&str>,
 ) -> Result<Outline<'a>, AllocError>
     ensures names { IfOk result (λ outline.
         (look : Text → Option ImportEntry) →
         map entry_name (map export_entry_of outline.exports.items)
-        ≡ map entry_name (flat_map (named_by look) (map part_items tops.now))) }
+        ≡ map entry_name (flat_map (exports_named look) (map part_items tops.now))) }
     ensures sources { IfOk result (λ outline.
-        map asked outline.sources.items
+        map source_asked outline.sources.items
         ≡ map (has_external external.now) (flat_map requests_of_item (map part_items tops.now))) }
     ensures listed { IfOk result (λ outline.
-        map listed_as outline.listed.items
+        map export_listed_as outline.listed.items
         ≡ flat_map names_listed (map part_items tops.now)) }
 {
     let none = TextMap::new(alloc);

@@ -2,7 +2,7 @@
 
 ghost use Rattle.std.specs.Prelude.{◌≡◌, [], IfOk, MatchResult, filter, map, not, string_bytes};
 ghost use Rattle.bundle_tree_names.specs.FileName.{Name};
-ghost use Rattle.bundle_tree_piece.specs.Item.{item_of};
+ghost use Rattle.bundle_syntax.specs.Item.{item_of};
 ghost use Rattle.bundle_rules.specs.Bound.{is_free};
 ghost use Rattle.bundle_rules.specs.Declarations.{BySymbol};
 ghost use Rattle.bundle_rules.specs.Entries as the_entries;
@@ -10,19 +10,19 @@ ghost use Rattle.bundle_rules.specs.Entries.{Settings, requests_of};
 ghost use Rattle.bundle_rules.specs.Faults.{entry_name, listed_names, IsFaultless, IsFirstTreeFault};
 ghost use Rattle.bundle_rules.specs.Scopes.{Es};
 ghost use Rattle.bundle_rules.specs.Tables.{is_star};
-ghost use Rattle.bundle_scope_denote.specs.Listed.{IsTable};
-ghost use Rattle.bundle_link_tables.specs.Listed.{listed_as};
+ghost use Rattle.bundle_scope_denote.specs.Listed.{IsDenotationTable};
+ghost use Rattle.bundle_link_tables.specs.Listed.{export_listed_as};
 ghost use Rattle.bundle_link_tables.specs.Sources.{HasTexts};
 ghost use Rattle.bundle_link_tables.specs.TablesOf.{call_entry_of, export_entry_of, fault_in};
 
 use crate::calls::linked_calls;
 use crate::faults::{first_fault, first_unlisted_fault};
 use crate::outline::{Outline, outline_of};
-use crate::table::{RequireCall, TreeFault};
+use crate::table::{FileFault, RequireCall};
 use crate::tables::{requests, texts};
 use bundle_scope_denote::texts::TextSet;
 use bundle_scope_denote::{Denotations, ModuleKind, Reading, denotations};
-use bundle_tree_piece::Piece;
+use bundle_syntax::Piece;
 use bundle_tree_places::nodes::has_with;
 use std::alloc::{AllocError, Global};
 
@@ -34,7 +34,7 @@ pub fn requests_in<'a>(
     pieces: &[Piece<'a>],
     require: bool,
     external: &[String],
-) -> Result<Result<Vec<&'a str>, TreeFault<'a>>, AllocError>
+) -> Result<Result<Vec<&'a str>, FileFault<'a>>, AllocError>
     ensures requests { IfOk result (λ answer.
         IfOk answer (λ requests.
         (settings : Settings) →
@@ -63,11 +63,11 @@ fn calls_in<'a>(
     require: bool,
     external: &TextSet<&str>,
     outline: &Outline<'a>,
-) -> Result<Result<Vec<RequireCall<'a>>, TreeFault<'a>>, AllocError>
+) -> Result<Result<Vec<RequireCall<'a>>, FileFault<'a>>, AllocError>
     requires names { map entry_name (map export_entry_of outline.now.exports.items)
         ≡ map entry_name
         (filter (λ entry. not (is_star entry)) (the_entries.exports_of (map item_of pieces.now))) }
-    requires listed { map listed_as outline.now.listed.items
+    requires listed { map export_listed_as outline.now.listed.items
         ≡ listed_names (map item_of pieces.now) }
     ensures calls { IfOk result (λ answer.
         IfOk answer (λ calls.
@@ -94,7 +94,7 @@ fn no_calls<'a>(
     alloc: Global,
     pieces: &[Piece<'a>],
     outline: &Outline<'a>,
-) -> Result<Result<Vec<RequireCall<'a>>, TreeFault<'a>>, AllocError>
+) -> Result<Result<Vec<RequireCall<'a>>, FileFault<'a>>, AllocError>
     requires names { map entry_name (map export_entry_of outline.now.exports.items)
         ≡ map entry_name
         (filter (λ entry. not (is_star entry)) (the_entries.exports_of (map item_of pieces.now))) }
@@ -120,12 +120,12 @@ fn calls_by<'a>(
     require: bool,
     external: &TextSet<&str>,
     outline: &Outline<'a>,
-) -> Result<Result<Vec<RequireCall<'a>>, TreeFault<'a>>, AllocError>
-    requires table { IsTable BySymbol Es (map item_of pieces.now) names.now }
+) -> Result<Result<Vec<RequireCall<'a>>, FileFault<'a>>, AllocError>
+    requires table { IsDenotationTable BySymbol Es (map item_of pieces.now) names.now }
     requires names { map entry_name (map export_entry_of outline.now.exports.items)
         ≡ map entry_name
         (filter (λ entry. not (is_star entry)) (the_entries.exports_of (map item_of pieces.now))) }
-    requires listed { map listed_as outline.now.listed.items
+    requires listed { map export_listed_as outline.now.listed.items
         ≡ listed_names (map item_of pieces.now) }
     ensures calls { IfOk result (λ answer.
         IfOk answer (λ calls.

@@ -2,27 +2,27 @@
 
 ghost use Rattle.std.specs.Prelude.{◌≡◌, ◌++◌, map, List, IfOk, OnOk};
 ghost use Rattle.std.specs.List.{flat_map};
-ghost use Rattle.bundle_tree_piece.specs.Item.{head_of, item_of};
+ghost use Rattle.bundle_syntax.specs.Item.{head_of, item_of};
 ghost use Rattle.bundle_rules.specs.Entries.{requests_by, requests_of_item};
 ghost use Rattle.bundle_rules.specs.Nodes.{each_once, Text};
 ghost use Rattle.bundle_link_tables.specs.Exported.{text_list};
 ghost use Rattle.bundle_tree_places.specs.Parted.{part_items};
-ghost use Rattle.bundle_link_tables.specs.Sources.{asked, has_external, star_by, star_in};
+ghost use Rattle.bundle_link_tables.specs.Sources.{source_asked, has_external, star_by, star_in};
 
 use crate::table::Source;
 use bundle_scope_denote::texts::TextSet;
-use bundle_tree_piece::{Node, Piece};
-use bundle_tree_places::parts::{Part, child, node_of, string_of, text_in};
+use bundle_syntax::{Node, Piece};
+use bundle_tree_places::parts::{NodeAt, child, node_of, string_of, text_in};
 use std::alloc::{AllocError, Global};
 
 /// What the top items of a module ask for, in the order of the source. `external` are the texts that are external.
 pub fn sources_of<'a>(
     alloc: Global,
-    tops: &[Part<'_, 'a>],
+    tops: &[NodeAt<'_, 'a>],
     external: &TextSet<&str>,
 ) -> Result<Vec<Source<'a>>, AllocError>
     ensures { IfOk result (λ sources.
-        map asked sources.items
+        map source_asked sources.items
         ≡ map (has_external external.now) (flat_map requests_of_item (map part_items tops.now))) }
 {
     let mut sources = Vec::new(alloc);
@@ -35,12 +35,12 @@ pub fn sources_of<'a>(
 // Adds what a top item asks for.
 fn add_source<'a>(
     sources: &mut Vec<Source<'a>>,
-    item: Part<'_, 'a>,
+    item: NodeAt<'_, 'a>,
     external: &TextSet<&str>,
 ) -> Result<(), AllocError>
     ensures { OnOk result
-        (map asked sources.new.items
-        ≡ map asked sources.old.items
+        (map source_asked sources.new.items
+        ≡ map source_asked sources.old.items
         ++ map (has_external external.now) (requests_of_item (part_items item.entry))) }
 {
     if let Some(specifier) = asked_by(item.pieces) {
@@ -97,7 +97,7 @@ fn star_as<'a>(node: Node<'a>, pieces: &[Piece<'a>]) -> Option<&'a str>
 }
 
 /// What `export * from` asks for, each text once, where it stands first.
-pub fn stars_of<'a>(alloc: Global, tops: &[Part<'_, 'a>]) -> Result<TextSet<&'a str>, AllocError>
+pub fn stars_of<'a>(alloc: Global, tops: &[NodeAt<'_, 'a>]) -> Result<TextSet<&'a str>, AllocError>
     ensures { IfOk result (λ stars.
         map (λ key. key.now) stars.keys
         ≡ each_once (flat_map star_in (map part_items tops.now))) }
@@ -110,7 +110,7 @@ pub fn stars_of<'a>(alloc: Global, tops: &[Part<'_, 'a>]) -> Result<TextSet<&'a 
 }
 
 // Adds what `export * from` asks for at an item.
-fn add_star<'a>(stars: &mut TextSet<&'a str>, item: Part<'_, 'a>) -> Result<(), AllocError>
+fn add_star<'a>(stars: &mut TextSet<&'a str>, item: NodeAt<'_, 'a>) -> Result<(), AllocError>
     ensures { (seen : List Text) →
         map (λ key. key.now) stars.old.keys ≡ each_once seen →
         OnOk result

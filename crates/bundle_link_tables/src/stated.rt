@@ -1,13 +1,13 @@
 //! Which places of a list lie in a top item that states something.
 
 ghost use Rattle.std.specs.Prelude.{◌≡◌, ◌+◌, ◌-◌, ◌<◌, ◌≤◌, ◌^◌, ℕ, List, IfOk, map, nat_eq, not, if◌then◌else◌};
-ghost use Rattle.bundle_tree_piece.specs.Item.{head_of, item_of};
+ghost use Rattle.bundle_syntax.specs.Item.{head_of, item_of};
 ghost use Rattle.bundle_rules.specs.Places.{Around, path_past};
 ghost use Rattle.bundle_tree_places.specs.Stated as Stated;
 ghost use Rattle.bundle_tree_places.specs.Stated.{is_in_statement};
-ghost use Rattle.bundle_link_tables.specs.Within.{AreStated, IsWithin};
+ghost use Rattle.bundle_link_tables.specs.Within.{AreStated, IsWithinItem};
 
-use bundle_tree_piece::{Node, Piece};
+use bundle_syntax::{Node, Piece};
 use bundle_tree_places::nodes::states_nothing;
 use std::alloc::{AllocError, Global};
 
@@ -36,7 +36,7 @@ pub fn stated_places<'a>(alloc: Global, pieces: &[Piece<'a>]) -> Result<Vec<bool
 
 // Whether what stands in these nodes lies in a top item that states something.
 fn is_stated(within: Within) -> bool
-    ensures { (path : List Around) → IsWithin within path → result ≡ is_in_statement path }
+    ensures { (path : List Around) → IsWithinItem within path → result ≡ is_in_statement path }
 {
     if within.depth == 0 {
         false
@@ -51,7 +51,7 @@ fn is_stated(within: Within) -> bool
 fn step_past<'a>(within: Within, piece: Piece<'a>) -> Within
     requires { within.depth < 2 ^ 64 - 1 }
     ensures within { (place : ℕ) (path : List Around) →
-        IsWithin within path → IsWithin result (path_past place path (item_of piece.entry)) }
+        IsWithinItem within path → IsWithinItem result (path_past place path (item_of piece.entry)) }
     ensures depth { result.depth ≤ within.depth + 1 }
 {
     match piece {

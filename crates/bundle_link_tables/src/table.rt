@@ -10,7 +10,7 @@ pub enum Taken<'a> {
 
 /// An import: the name that it binds, the module that it asks for, and what it takes of that module.
 #[derive(Clone, Copy, PartialEq, Eq, Debug)]
-pub struct Import<'a> {
+pub struct ImportRef<'a> {
     pub local: &'a str,
     pub specifier: &'a str,
     pub taken: Taken<'a>,
@@ -66,7 +66,7 @@ pub struct Use<'a> {
 /// A member expression with a plain word, neither written to nor the base of an optional chain: where it
 /// begins, and the word.
 #[derive(Clone, Copy, PartialEq, Eq, Debug)]
-pub struct Read<'a> {
+pub struct MemberRead<'a> {
     pub place: usize,
     pub name: &'a str,
 }
@@ -88,7 +88,7 @@ pub struct Tables<'a> {
     /// What it asks to be loaded, each text once: first what imports and exports ask for, and then the
     /// literal calls of `require`.
     pub requests: Vec<&'a str>,
-    pub imports: Vec<Import<'a>>,
+    pub imports: Vec<ImportRef<'a>>,
     pub exports: Vec<Export<'a>>,
     /// The names that imports and indirect exports ask of other modules, in the order of the source.
     pub asked: Vec<AskedName<'a>>,
@@ -99,7 +99,7 @@ pub struct Tables<'a> {
     /// The literal calls of `require` that are linked: all that are of no external, where `require` is on.
     pub calls: Vec<RequireCall<'a>>,
     pub uses: Vec<Use<'a>>,
-    pub reads: Vec<Read<'a>>,
+    pub reads: Vec<MemberRead<'a>>,
     /// It has neither an import or export declaration nor `import.meta`.
     pub is_script: bool,
     pub has_import_meta: bool,
@@ -114,7 +114,7 @@ pub struct Tables<'a> {
 
 /// What is wrong with a tree by itself.
 #[derive(Clone, Copy, PartialEq, Eq, Debug)]
-pub enum TreeFault<'a> {
+pub enum FileFault<'a> {
     /// Two exports have this name.
     DoubledExport { name: &'a str },
     /// An export list without `from` names what the module's top does not bind, or has a string there.

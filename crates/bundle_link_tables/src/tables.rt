@@ -3,10 +3,10 @@
 ghost use Rattle.std.specs.Prelude.{◌≡◌, codes, IfOk, MatchResult, filter, map, not, string_bytes, ◌&&◌, ◌++◌, ◌∷◌, [], List, OnOk};
 ghost use Rattle.std.specs.List.{flat_map};
 ghost use Rattle.bundle_tree_names.specs.FileName.{Name};
-ghost use Rattle.bundle_tree_piece.specs.Item.{item_of};
+ghost use Rattle.bundle_syntax.specs.Item.{item_of};
 ghost use Rattle.bundle_rules.specs.Declarations.{BySymbol};
 ghost use Rattle.bundle_rules.specs.Scopes.{Es};
-ghost use Rattle.bundle_scope_denote.specs.Listed.{IsTable};
+ghost use Rattle.bundle_scope_denote.specs.Listed.{IsDenotationTable};
 ghost use Rattle.bundle_rules.specs.Awaits as Awaits;
 ghost use Rattle.bundle_rules.specs.Bound as bound;
 ghost use Rattle.bundle_rules.specs.Bound.{is_free};
@@ -15,7 +15,7 @@ ghost use Rattle.bundle_rules.specs.Entries.{Settings, declared_requests, reques
 ghost use Rattle.bundle_rules.specs.Faults.{asked_names, IsFaultless, IsFirstTreeFault};
 ghost use Rattle.bundle_rules.specs.Nodes.{each_once, Text};
 ghost use Rattle.bundle_rules.specs.Tables.{is_star, star_of};
-ghost use Rattle.bundle_link_tables.specs.Sources.{asked, told_external, unexternal, unexternal_one, HasTexts};
+ghost use Rattle.bundle_link_tables.specs.Sources.{source_asked, told_external, unexternal, unexternal_one, HasTexts};
 ghost use Rattle.bundle_link_tables.specs.Exported.{Finds};
 ghost use Rattle.bundle_link_tables.specs.Used.{begin_in_turn, read_places, use_entry_of, uses_of};
 ghost use Rattle.bundle_link_tables.specs.TablesOf.{asked_name_of, call_entry_of, export_entry_of, fault_in, import_entry_of, uses_common_js};
@@ -24,11 +24,11 @@ use crate::calls::linked_calls;
 use crate::entries::{Entries, entries_of};
 use crate::faults::first_fault;
 use crate::free::{has_free, names_common_js};
-use crate::table::{RequireCall, Source, Tables, TreeFault};
-use crate::walk::{Found, found_in};
+use crate::table::{FileFault, RequireCall, Source, Tables};
+use crate::walk::{UsesFound, found_in};
 use bundle_scope_denote::Denotations;
 use bundle_scope_denote::texts::TextSet;
-use bundle_tree_piece::Piece;
+use bundle_syntax::Piece;
 use bundle_tree_places::rare::{Rare, rare_in};
 use std::alloc::{AllocError, Global};
 
@@ -43,7 +43,7 @@ pub fn tables_of<'a>(
     denotations: &Denotations<'a>,
     require: bool,
     external: &[String],
-) -> Result<Result<Tables<'a>, TreeFault<'a>>, AllocError>
+) -> Result<Result<Tables<'a>, FileFault<'a>>, AllocError>
     ensures meta { IfOk result (λ answer. IfOk answer (λ tables.
         tables.has_import_meta ≡ the_entries.has_import_meta (map item_of pieces.now))) }
     ensures imports { IfOk result (λ answer.
@@ -63,7 +63,7 @@ pub fn tables_of<'a>(
         ≡ each_once (flat_map star_of (the_entries.exports_of (map item_of pieces.now))))) }
     ensures sources { IfOk result (λ answer.
         IfOk answer (λ tables.
-        map asked tables.sources.items
+        map source_asked tables.sources.items
         ≡ map (told_external (map string_bytes external.now))
         (declared_requests (map item_of pieces.now)))) }
     ensures calls { IfOk result (λ answer.
@@ -71,7 +71,7 @@ pub fn tables_of<'a>(
         (settings : Settings) →
         settings.require ≡ require →
         settings.external ≡ map string_bytes external.now →
-        IsTable BySymbol Es (map item_of pieces.now) denotations.now →
+        IsDenotationTable BySymbol Es (map item_of pieces.now) denotations.now →
         map call_entry_of tables.calls.items
         ≡ the_entries.linked_calls settings (is_free (map item_of pieces.now))
         (map item_of pieces.now))) }
@@ -80,18 +80,18 @@ pub fn tables_of<'a>(
         (settings : Settings) →
         settings.require ≡ require →
         settings.external ≡ map string_bytes external.now →
-        IsTable BySymbol Es (map item_of pieces.now) denotations.now →
+        IsDenotationTable BySymbol Es (map item_of pieces.now) denotations.now →
         map (λ request. request.now) tables.requests.items
         ≡ requests_of settings (is_free (map item_of pieces.now)) (map item_of pieces.now))) }
     ensures script { IfOk result (λ answer. IfOk answer (λ tables.
         tables.is_script ≡ the_entries.is_script (map item_of pieces.now))) }
     ensures common_js { IfOk result (λ answer.
         IfOk answer (λ tables.
-        IsTable BySymbol Es (map item_of pieces.now) denotations.now →
+        IsDenotationTable BySymbol Es (map item_of pieces.now) denotations.now →
         tables.names_common_js ≡ uses_common_js (map item_of pieces.now))) }
     ensures arguments { IfOk result (λ answer.
         IfOk answer (λ tables.
-        IsTable BySymbol Es (map item_of pieces.now) denotations.now →
+        IsDenotationTable BySymbol Es (map item_of pieces.now) denotations.now →
         tables.has_free_arguments
         ≡ bound.has_free (map item_of pieces.now) (codes "arguments"))) }
     ensures awaits { IfOk result (λ answer.
@@ -102,12 +102,12 @@ pub fn tables_of<'a>(
         ≡ map begin_in_turn tables.uses.items)) }
     ensures uses { IfOk result (λ answer.
         IfOk answer (λ tables.
-        IsTable BySymbol Es (map item_of pieces.now) denotations.now →
+        IsDenotationTable BySymbol Es (map item_of pieces.now) denotations.now →
         map (use_entry_of tables.reads.items) tables.uses.items
         ≡ uses_of (map item_of pieces.now))) }
     ensures judged { IfOk result (λ answer.
         (file : Name) →
-        IsTable BySymbol Es (map item_of pieces.now) denotations.now →
+        IsDenotationTable BySymbol Es (map item_of pieces.now) denotations.now →
         MatchResult answer (λ tables. IsFaultless file (map item_of pieces.now))
         (λ fault. IsFirstTreeFault file (map item_of pieces.now) (fault_in file fault))) }
 {
@@ -147,7 +147,7 @@ struct Made<'a> {
     calls: Vec<RequireCall<'a>>,
     requests: Vec<&'a str>,
     stars: Vec<&'a str>,
-    found: Found<'a>,
+    found: UsesFound<'a>,
 }
 
 // What the tables of a module have beside what it imports and gives.
@@ -163,7 +163,7 @@ fn made_of<'a>(
         (settings : Settings) →
         settings.require ≡ require →
         HasTexts external.now settings.external →
-        IsTable BySymbol Es (map item_of pieces.now) denotations.now →
+        IsDenotationTable BySymbol Es (map item_of pieces.now) denotations.now →
         map call_entry_of made.calls.items
         ≡ the_entries.linked_calls settings (is_free (map item_of pieces.now))
         (map item_of pieces.now)) }
@@ -178,7 +178,7 @@ fn made_of<'a>(
         ≡ map begin_in_turn made.found.uses.items) }
     ensures uses { IfOk result (λ made.
         Finds entries.now.locals (the_entries.imports_of (map item_of pieces.now)) →
-        IsTable BySymbol Es (map item_of pieces.now) denotations.now →
+        IsDenotationTable BySymbol Es (map item_of pieces.now) denotations.now →
         map (use_entry_of made.found.reads.items) made.found.uses.items
         ≡ uses_of (map item_of pieces.now)) }
 {
@@ -221,9 +221,9 @@ fn put_together<'a>(
     ensures awaits { result.awaits ≡ rare.awaits }
     ensures reads { result.reads.items ≡ made.entry.found.reads.items }
     ensures uses { result.uses.items ≡ made.entry.found.uses.items }
-    ensures common_js { IsTable BySymbol Es (map item_of pieces.now) denotations.now →
+    ensures common_js { IsDenotationTable BySymbol Es (map item_of pieces.now) denotations.now →
         result.names_common_js ≡ uses_common_js (map item_of pieces.now) }
-    ensures arguments { IsTable BySymbol Es (map item_of pieces.now) denotations.now →
+    ensures arguments { IsDenotationTable BySymbol Es (map item_of pieces.now) denotations.now →
         result.has_free_arguments ≡ bound.has_free (map item_of pieces.now) (codes "arguments") }
 {
     let Entries {
@@ -232,7 +232,7 @@ fn put_together<'a>(
         is_declared_module,
         ..
     } = entries;
-    let Found { uses, reads } = made.found;
+    let UsesFound { uses, reads } = made.found;
     Tables {
         requests: made.requests,
         imports,

@@ -2,38 +2,38 @@
 
 ghost use Rattle.std.specs.Prelude.{◌≡◌, ◌<◌, ◌++◌, [], ◌∷◌, List, IfOk, IfSome, OnOk, length, map, slice_get};
 ghost use Rattle.std.specs.List.{All, flat_map, list_any};
-ghost use Rattle.bundle_tree_piece.specs.Item.{item_of};
+ghost use Rattle.bundle_syntax.specs.Item.{item_of};
 ghost use Rattle.bundle_rules.specs.Declarations.{BySymbol};
 ghost use Rattle.bundle_rules.specs.Scopes.{Es};
-ghost use Rattle.bundle_scope_denote.specs.Listed.{IsTable};
+ghost use Rattle.bundle_scope_denote.specs.Listed.{IsDenotationTable};
 ghost use Rattle.bundle_rules.specs.Entries.{imports_of};
 ghost use Rattle.bundle_link_tables.specs.Exported.{Finds, text_list};
 ghost use Rattle.bundle_tree_places.specs.Placed as placed;
 ghost use Rattle.bundle_tree_places.specs.Seconds.{text_of};
 ghost use Rattle.bundle_link_tables.specs.Used.{UseEntry, begin_in_turn, name_read, place_read, places_before, read_places, use_entry_of, uses_of};
 ghost use Rattle.bundle_link_tables.specs.Walked as walked;
-ghost use Rattle.bundle_link_tables.specs.Walked.{Begin, IsRead, Says, has_import, is_behind_member, is_own_binding, named_at, named_use, names_by, pairs_at, symbol_if, uses_of_name, words_before};
+ghost use Rattle.bundle_link_tables.specs.Walked.{Begin, AreWordsRead, SaysUses, has_import, is_behind_member, is_own_binding, named_at, named_use, placed_names, pairs_at, symbol_if, uses_of_name, words_before};
 ghost use Rattle.bundle_link_tables.specs.Within.{IsStated};
 
 use crate::free::is_marked;
 use crate::stated::stated_places;
-use crate::table::{Import, Read, Use};
+use crate::table::{ImportRef, MemberRead, Use};
 use bundle_scope_denote::texts::TextMap;
 use bundle_scope_denote::{Denotations, Denoted, Scope, ScopeKind};
-use bundle_tree_piece::{Node, Piece};
-use bundle_tree_places::places::{Told, told_places};
+use bundle_syntax::{Node, Piece};
+use bundle_tree_places::places::{ReadAt, told_places};
 use std::alloc::{AllocError, Global};
 
 /// What was found so far.
 #[derive(Drop)]
-pub struct Found<'a> {
+pub struct UsesFound<'a> {
     pub uses: Vec<Use<'a>>,
-    pub reads: Vec<Read<'a>>,
+    pub reads: Vec<MemberRead<'a>>,
 }
 
 /// A name that an import binds, and the place where it stands.
 #[derive(Clone, Copy)]
-pub struct Named<'a> {
+pub struct ImportedName<'a> {
     place: usize,
     local: &'a str,
 }
@@ -43,21 +43,21 @@ pub fn found_in<'a>(
     alloc: Global,
     pieces: &[Piece<'a>],
     denotations: &Denotations<'a>,
-    imports: &TextMap<&'a str, Import<'a>>,
-) -> Result<Found<'a>, AllocError>
+    imports: &TextMap<&'a str, ImportRef<'a>>,
+) -> Result<UsesFound<'a>, AllocError>
     ensures places { IfOk result (λ found.
         map (read_places found.reads.items) found.uses.items
         ≡ map begin_in_turn found.uses.items) }
     ensures uses { IfOk result (λ found.
         Finds imports.now (imports_of (map item_of pieces.now)) →
-        IsTable BySymbol Es (map item_of pieces.now) denotations.now →
+        IsDenotationTable BySymbol Es (map item_of pieces.now) denotations.now →
         map (use_entry_of found.reads.items) found.uses.items
         ≡ uses_of (map item_of pieces.now)) }
 {
     let names = names_in(alloc, pieces, denotations, imports)?;
     let stated = stated_for(alloc, pieces, &names)?;
     let told = told_for(alloc, pieces, &names)?;
-    let mut found = Found {
+    let mut found = UsesFound {
         uses: Vec::new(alloc),
         reads: Vec::new(alloc),
     };
@@ -72,11 +72,11 @@ fn names_in<'a>(
     alloc: Global,
     pieces: &[Piece<'a>],
     denotations: &Denotations<'a>,
-    imports: &TextMap<&'a str, Import<'a>>,
-) -> Result<Vec<Named<'a>>, AllocError>
+    imports: &TextMap<&'a str, ImportRef<'a>>,
+) -> Result<Vec<ImportedName<'a>>, AllocError>
     ensures { IfOk result (λ names.
         map named_at names.items
-        ≡ flat_map (names_by denotations.now (has_import imports.now) (map item_of pieces.now))
+        ≡ flat_map (placed_names denotations.now (has_import imports.now) (map item_of pieces.now))
         denotations.now.occurrences.items) }
 {
     let mut names = Vec::new(alloc);
@@ -89,7 +89,7 @@ fn names_in<'a>(
 
 // Adds a name at a place, if there is one.
 fn add_name<'a>(
-    names: &mut Vec<Named<'a>>,
+    names: &mut Vec<ImportedName<'a>>,
     place: usize,
     name: Option<&'a str>,
 ) -> Result<(), AllocError>
@@ -98,7 +98,7 @@ fn add_name<'a>(
         ≡ map named_at names.old.items ++ pairs_at place (text_list name.entry)) }
 {
     if let Some(local) = name {
-        names.push(Named { place, local })?;
+        names.push(ImportedName { place, local })?;
     }
     Ok(())
 }
@@ -107,7 +107,7 @@ fn add_name<'a>(
 fn stated_for<'a>(
     alloc: Global,
     pieces: &[Piece<'a>],
-    names: &[Named<'a>],
+    names: &[ImportedName<'a>],
 ) -> Result<Vec<bool>, AllocError>
     ensures { IfOk result (λ stated.
         All (λ name. IsStated (map item_of pieces.now) stated.items name.place) names.now) }
@@ -123,10 +123,10 @@ fn stated_for<'a>(
 fn told_for<'a>(
     alloc: Global,
     pieces: &[Piece<'a>],
-    names: &[Named<'a>],
-) -> Result<Vec<Told<'a>>, AllocError>
+    names: &[ImportedName<'a>],
+) -> Result<Vec<ReadAt<'a>>, AllocError>
     ensures { IfOk result (λ told.
-        All (λ name. IsRead (map item_of pieces.now) told.items name.place) names.now) }
+        All (λ name. AreWordsRead (map item_of pieces.now) told.items name.place) names.now) }
 {
     if are_read(pieces, names) {
         let told = told_places(alloc, pieces)?;
@@ -136,7 +136,7 @@ fn told_for<'a>(
 }
 
 // Whether one of these names stands right behind where a member begins.
-fn are_read(pieces: &[Piece], names: &[Named]) -> bool
+fn are_read(pieces: &[Piece], names: &[ImportedName]) -> bool
     ensures { result
         ≡ list_any (λ name. is_behind_member (map item_of pieces.now) name.place) names.now }
 {
@@ -170,11 +170,11 @@ fn begins_member(pieces: &[Piece], place: usize) -> bool
 fn name_of<'a>(
     pieces: &[Piece<'a>],
     denotations: &Denotations<'a>,
-    imports: &TextMap<&'a str, Import<'a>>,
+    imports: &TextMap<&'a str, ImportRef<'a>>,
     entry: Denoted,
 ) -> Option<&'a str>
     ensures { text_list result
-        ≡ walked.name_of denotations.now (has_import imports.now) (map item_of pieces.now) entry }
+        ≡ walked.imported_name denotations.now (has_import imports.now) (map item_of pieces.now) entry }
 {
     if is_own_number(denotations, entry.binding) {
         imported_at(pieces, imports, entry.place)
@@ -186,7 +186,7 @@ fn name_of<'a>(
 // The symbol of the identifier at a place, if an import binds it.
 fn imported_at<'a>(
     pieces: &[Piece<'a>],
-    imports: &TextMap<&'a str, Import<'a>>,
+    imports: &TextMap<&'a str, ImportRef<'a>>,
     place: usize,
 ) -> Option<&'a str>
     ensures { text_list result
@@ -242,7 +242,7 @@ fn is_own_scope(scopes: &[Scope], number: usize) -> bool
 }
 
 // The word that is told of a place.
-fn word_told<'a>(told: &[Told<'a>], place: usize) -> Option<&'a str>
+fn word_told<'a>(told: &[ReadAt<'a>], place: usize) -> Option<&'a str>
     ensures { text_of result ≡ placed.word_told told.now place }
 {
     if place < told.len() {
@@ -254,18 +254,18 @@ fn word_told<'a>(told: &[Told<'a>], place: usize) -> Option<&'a str>
 
 // Notes a use of a name, if it stands in a top item that states something.
 fn add_named<'a>(
-    found: &mut Found<'a>,
+    found: &mut UsesFound<'a>,
     stated: &[bool],
-    told: &[Told<'a>],
-    name: Named<'a>,
+    told: &[ReadAt<'a>],
+    name: ImportedName<'a>,
 ) -> Result<(), AllocError>
     ensures places { OnOk result
         (Begin (map place_read found.old.reads.items) found.old.uses.items →
         Begin (map place_read found.new.reads.items) found.new.uses.items) }
     ensures uses { OnOk result
         ((entries : List UseEntry) →
-        Says (map name_read found.old.reads.items) found.old.uses.items entries →
-        Says (map name_read found.new.reads.items) found.new.uses.items
+        SaysUses (map name_read found.old.reads.items) found.old.uses.items entries →
+        SaysUses (map name_read found.new.reads.items) found.new.uses.items
         (entries ++ uses_of_name stated.now told.now name.entry)) }
 {
     if is_marked(stated, name.place) {
@@ -276,8 +276,8 @@ fn add_named<'a>(
 
 // Notes a use of an imported name, with the reads around it.
 fn add_use<'a>(
-    found: &mut Found<'a>,
-    told: &[Told<'a>],
+    found: &mut UsesFound<'a>,
+    told: &[ReadAt<'a>],
     place: usize,
     local: &'a str,
 ) -> Result<(), AllocError>
@@ -286,8 +286,8 @@ fn add_use<'a>(
         Begin (map place_read found.new.reads.items) found.new.uses.items) }
     ensures uses { OnOk result
         ((entries : List UseEntry) →
-        Says (map name_read found.old.reads.items) found.old.uses.items entries →
-        Says (map name_read found.new.reads.items) found.new.uses.items
+        SaysUses (map name_read found.old.reads.items) found.old.uses.items entries →
+        SaysUses (map name_read found.new.reads.items) found.new.uses.items
         (entries ++ named_use told.now place local.now ∷ [])) }
 {
     let first_read = found.reads.len();
@@ -304,8 +304,8 @@ fn add_use<'a>(
 
 // Adds the reads around a place, innermost first.
 fn add_reads<'a>(
-    reads: &mut Vec<Read<'a>>,
-    told: &[Told<'a>],
+    reads: &mut Vec<MemberRead<'a>>,
+    told: &[ReadAt<'a>],
     place: usize,
 ) -> Result<(), AllocError>
     ensures places { OnOk result
@@ -319,13 +319,13 @@ fn add_reads<'a>(
     let mut inner = place;
     while let Some(name) = word_before(told, inner) {
         inner -= 1;
-        reads.push(Read { place: inner, name })?;
+        reads.push(MemberRead { place: inner, name })?;
     }
     Ok(())
 }
 
 // The word that is told of the place right before a place.
-fn word_before<'a>(told: &[Told<'a>], place: usize) -> Option<&'a str>
+fn word_before<'a>(told: &[ReadAt<'a>], place: usize) -> Option<&'a str>
     ensures word { text_of result ≡ walked.word_before (placed.word_told told.now) place }
     ensures some { IfSome result (λ word. 0 < place) }
 {

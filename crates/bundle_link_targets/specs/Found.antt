@@ -8,31 +8,31 @@ use Rattle.bundle_rules.specs.Program.{Program, tree_of}
 use Rattle.bundle_rules.specs.Linking as l
 use Rattle.bundle_rules.specs.Linking.{Namespace, IsModule, Linked, StandsFor, Takes}
 use Rattle.bundle_rules.specs.Meaning.{Of, IsMeant}
-use Rattle.bundle_link_tables.specs.declared.table.Read.{Read}
+use Rattle.bundle_link_tables.specs.declared.table.MemberRead.{MemberRead}
 use Rattle.bundle_link_tables.specs.declared.table.Use.{Use}
-use Rattle.bundle_link_search.specs.Given.{IsIn}
-use Rattle.bundle_link_index.specs.declared.target.Target.{Target}
+use Rattle.bundle_link_index.specs.Given.{IsIn}
+use Rattle.bundle_link_index.specs.declared.target.TargetRef.{TargetRef}
 use Rattle.bundle_link_index.specs.Says.{target_of}
 use Rattle.bundle_link_targets.specs.declared.target.Meaning.{Meaning}
 use Rattle.bundle_link_tables.specs.Used.{uses_of}
-use Rattle.bundle_link_targets.specs.Meant.{AnyMeans, IsShared, IsTaken, LinksTo, WordsMean}
+use Rattle.bundle_link_targets.specs.Meant.{AnyMeans, IsShared, IsTargetTaken, LinksTo, WordsMean}
 
 -- targets, as they are kept
-abbrev pub targets_in : {S : Type 0} → IndexSet Target S → List l.Target
+abbrev pub targets_in : {S : Type 0} → IndexSet TargetRef S → List l.Target
 targets_in set = map target_of set.keys
 
 -- the target of a pair
-abbrev pub target_in : (Bor Text × Target) → l.Target
+abbrev pub target_in : (Bor Text × TargetRef) → l.Target
 target_in pair = target_of pair.1
 
 -- the reads around a use
-abbrev pub reads_by : List Read → Use → List Read
+abbrev pub reads_by : List MemberRead → Use → List MemberRead
 reads_by reads its = take its.count (drop its.first_read reads)
 
 -- what a read of a name of a target means: what a name of a namespace is linked to, or nothing by itself
-abbrev pub IsNext : Program → l.Target → Text → Option l.Target → Type 0
-IsNext p t x None = (d : ℕ) (u : l.Target) → t ≡ Namespace d → Linked p d x u → ⊥
-IsNext p t x (Some u) = (d : ℕ) × (t ≡ Namespace d) × Linked p d x u
+abbrev pub IsReadTarget : Program → l.Target → Text → Option l.Target → Type 0
+IsReadTarget p t x None = (d : ℕ) (u : l.Target) → t ≡ Namespace d → Linked p d x u → ⊥
+IsReadTarget p t x (Some u) = (d : ℕ) × (t ≡ Namespace d) × Linked p d x u
 
 -- what an import stands for: what a name of an ES module is linked to, or just what is taken
 pub data Imports (p : Program) (m : ℕ) (entry : ImportEntry) : l.Target → Type 0 where
@@ -69,25 +69,26 @@ pub record IsNameOf (p : Program) (t u : l.Target) : Type 0 where
   pub links : LinksTo p d u
 
 -- a target is one of these, or a name of a namespace that is so is linked to it
-pub data Within (p : Program) (targets : List l.Target) : l.Target → Type 0 where
-  itself : {t : l.Target} → IsIn targets t → Within p targets t
-  by_links : {t u : l.Target} → Within p targets t → IsNameOf p t u → Within p targets u
+pub data WithinTargets (p : Program) (targets : List l.Target) : l.Target → Type 0 where
+  itself : {t : l.Target} → IsIn targets t → WithinTargets p targets t
+  by_links : {t u : l.Target} → WithinTargets p targets t → IsNameOf p t u →
+      WithinTargets p targets u
 
 -- so many of the targets that were met are done
 pub record Meets (p : Program) (old new : List l.Target) (done : ℕ) : Type 0 where
   pub kept : (t : l.Target) → IsIn old t → IsIn new t
   pub past : (i : ℕ) (t u : l.Target) → i < done → slice_get new i ≡ Some t → IsNameOf p t u → IsIn new u
-  pub within : (t : l.Target) → IsIn new t → Within p old t
+  pub within : (t : l.Target) → IsIn new t → WithinTargets p old t
 
 -- all that is within some targets is met, and no more
 pub record Closes (p : Program) (old new : List l.Target) : Type 0 where
   pub kept : (t : l.Target) → IsIn old t → IsIn new t
   pub closed : (t u : l.Target) → IsIn new t → IsNameOf p t u → IsIn new u
-  pub within : (t : l.Target) → IsIn new t → Within p old t
+  pub within : (t : l.Target) → IsIn new t → WithinTargets p old t
 
 -- the least set is held
 abbrev pub HoldsTaken : Program → List l.Target → Type 0
-HoldsTaken p targets = (t : l.Target) → IsIn targets t ↔ IsTaken p t
+HoldsTaken p targets = (t : l.Target) → IsIn targets t ↔ IsTargetTaken p t
 
 -- all that is meant and no declaration is held, and what is held is meant
 pub record HoldsMeant (p : Program) (targets : List l.Target) : Type 0 where

@@ -13,7 +13,7 @@ use Rattle.bundle_rules.specs.Linking.{Namespace}
 use Rattle.bundle_rules.specs.Tables.{TellsCommonJs}
 use Rattle.bundle_rules.specs.Meaning.{Of, IsMeant}
 use Rattle.bundle_link_tables.specs.Used.{UseEntry, uses_of}
-use Rattle.bundle_link_index.specs.declared.target.Target.{Target}
+use Rattle.bundle_link_index.specs.declared.target.TargetRef.{TargetRef}
 use Rattle.bundle_link_targets.specs.declared.target.External.{External}
 use Rattle.bundle_link_targets.specs.declared.target.Loaded.{Loaded}
 use Rattle.bundle_link_targets.specs.declared.target.Meaning.{Meaning}
@@ -21,7 +21,7 @@ use Rattle.bundle_link_targets.specs.Meant.{AreModules}
 use Rattle.bundle_link_targets.specs.Taken.{AreTaken, specifier_of}
 use Rattle.bundle_link_targets.specs.Found.{IsMeaning}
 use Rattle.bundle_link_targets.specs.Lists.{list_in}
-use Rattle.bundle_link_targets.specs.Names.{pair_of}
+use Rattle.bundle_link_targets.specs.Names.{target_pair}
 
 -- Uses of imported names.
 
@@ -44,17 +44,17 @@ IsMeaningAt p m number found = (its : UseEntry) → slice_get (uses_of (tree_of 
 -- Linked names.
 
 -- the linked names of m, ascending, each with its target
-abbrev pub AreLinkedIn : Program → ℕ → List (Bor Text × Target) → Type 0
-AreLinkedIn p m pairs = AreLinked p m (map pair_of pairs)
+abbrev pub AreLinkedIn : Program → ℕ → List (Bor Text × TargetRef) → Type 0
+AreLinkedIn p m pairs = AreLinked p m (map target_pair pairs)
 
 -- those of the entry, and of each module whose namespace is meant
-abbrev pub HoldsLinked : Program → List (Vec (Bor Text × Target) Global) → Type 0
+abbrev pub HoldsLinked : Program → List (Vec (Bor Text × TargetRef) Global) → Type 0
 HoldsLinked p lists = (d : ℕ) → (d ≡ p.entry) ⊎ IsMeant p (Of (Namespace d)) → AreLinkedIn p d (list_in lists d)
 
 -- Lists by numbers.
 
 -- of the lists of these numbers it holds now, and of those of which it did
-pub record Fills {T : Type 0} (Holds : ℕ → List T → Type 0) (Those : ℕ → Type 0) (old new : List (Vec T Global)) : Type 0 where
+pub record HoldsOfLists {T : Type 0} (Holds : ℕ → List T → Type 0) (Those : ℕ → Type 0) (old new : List (Vec T Global)) : Type 0 where
   pub kept : (n : ℕ) → Holds n (list_in old n) → Holds n (list_in new n)
   pub there : (n : ℕ) → Those n → Holds n (list_in new n)
   pub long : length new ≡ length old
@@ -74,11 +74,11 @@ pub record AreExternalsOf (p : Program) (list : List ℕ) (found : List External
 
 -- what of a CommonJS module is meant in m
 abbrev pub IsLoadOf : Program → ℕ → Loaded → Type 0
-IsLoadOf p m loaded = AreTaken (λ t. IsMeant p (Of t)) (l.CommonJs m loaded.module) (map (λ name. name.now) loaded.names.items) loaded.whole
+IsLoadOf p m loaded = AreTaken (λ t. IsMeant p (Of t)) (l.CommonJs m loaded.which) (map (λ name. name.now) loaded.names.items) loaded.whole
 
 -- the CommonJS modules that m imports or re-exports, each once, in the order of its declarations, with what of them is meant there
 pub record AreLoadsIn (p : Program) (m : ℕ) (loads : List Loaded) : Type 0 where
   pub test : ℕ → Bool
   pub tells : (c : ℕ) → TellsCommonJs p c (test c)
-  pub modules : map (λ loaded. loaded.module) loads ≡ numbers_once (filter test (filter_map (resolves p m) (declared_requests (tree_of p m))))
+  pub modules : map (λ loaded. loaded.which) loads ≡ numbers_once (filter test (filter_map (resolves p m) (declared_requests (tree_of p m))))
   pub meant : AreModules p → All (IsLoadOf p m) loads

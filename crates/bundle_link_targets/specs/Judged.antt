@@ -5,7 +5,7 @@ use Rattle.bundle_rules.specs.Nodes.{Text}
 use Rattle.bundle_rules.specs.Program.{Program}
 use Rattle.bundle_rules.specs.Faults as g
 use Rattle.bundle_rules.specs.Faults.{JudgedNotAfter, ProgramFault}
-use Rattle.bundle_link_targets.specs.declared.target.Fault.{Fault}
+use Rattle.bundle_link_targets.specs.declared.target.LinkFault.{LinkFault}
 use Rattle.bundle_link_targets.specs.declared.target.FaultKind.{FaultKind}
 use Rattle.bundle_link_targets.specs.declared.target.FaultKind.TheVariants as k
 
@@ -23,34 +23,34 @@ fault_by k.ExternalUnderIife file name = g.ExternalUnderIife file name
 fault_by k.ArgumentsUnderIife file name = g.ArgumentsUnderIife file
 
 -- what a fault says of the file of its module
-abbrev pub fault_says : Name → Fault → g.Fault
+abbrev pub fault_says : Name → LinkFault → g.Fault
 fault_says file fault = fault_by fault.kind file fault.name.now
 
 -- no fault of the stage is in the module
-abbrev pub HasNone : Program → ℕ → ℕ → Type 0
-HasNone p stage m = (file : Name) (place : ℕ) (f : g.Fault) → ProgramFault p file m stage place f → ⊥
+abbrev pub HasNoStageFault : Program → ℕ → ℕ → Type 0
+HasNoStageFault p stage m = (file : Name) (place : ℕ) (f : g.Fault) → ProgramFault p file m stage place f → ⊥
 
 -- the first fault of the stage in the module
-pub record IsFirstIn (p : Program) (stage m : ℕ) (fault : Fault) : Type 0 where
-  pub here : fault.module ≡ m
+pub record IsFirstFaultIn (p : Program) (stage m : ℕ) (fault : LinkFault) : Type 0 where
+  pub here : fault.which ≡ m
   pub place : ℕ
   pub there : (file : Name) → ProgramFault p file m stage place (fault_says file fault)
   pub least : (file : Name) (other : ℕ) (f : g.Fault) → ProgramFault p file m stage other f → place ≤ other
 
 -- the first of the stage in the module, or none where it has none
-abbrev pub IsFoundIn : Program → ℕ → ℕ → Option Fault → Type 0
-IsFoundIn p stage m None = HasNone p stage m
-IsFoundIn p stage m (Some fault) = IsFirstIn p stage m fault
+abbrev pub IsFoundIn : Program → ℕ → ℕ → Option LinkFault → Type 0
+IsFoundIn p stage m None = HasNoStageFault p stage m
+IsFoundIn p stage m (Some fault) = IsFirstFaultIn p stage m fault
 
 -- the first fault, in the order of judging, of the stages from one on and below another that listed modules have
-pub record IsFirst (p : Program) (list : List ℕ) (from below : ℕ) (fault : Fault) : Type 0 where
+pub record IsFirst (p : Program) (list : List ℕ) (from below : ℕ) (fault : LinkFault) : Type 0 where
   pub i : ℕ
-  pub listed : slice_get list i ≡ Some fault.module
+  pub listed : slice_get list i ≡ Some fault.which
   pub stage : ℕ
   pub begun : from ≤ stage
   pub ended : stage < below
   pub place : ℕ
-  pub there : (file : Name) → ProgramFault p file fault.module stage place (fault_says file fault)
+  pub there : (file : Name) → ProgramFault p file fault.which stage place (fault_says file fault)
   pub first : (j n other its : ℕ) (file : Name) (f : g.Fault) →
       from ≤ other →
       other < below →
@@ -59,6 +59,6 @@ pub record IsFirst (p : Program) (list : List ℕ) (from below : ℕ) (fault : F
       JudgedNotAfter stage i place other j its
 
 -- the first of these stages among listed modules, or none where no listed module has one
-abbrev pub IsJudged : Program → List ℕ → ℕ → ℕ → Option Fault → Type 0
-IsJudged p list from below None = (j n stage place : ℕ) (file : Name) (f : g.Fault) → from ≤ stage → stage < below → slice_get list j ≡ Some n → ProgramFault p file n stage place f → ⊥
-IsJudged p list from below (Some fault) = IsFirst p list from below fault
+abbrev pub IsStageJudged : Program → List ℕ → ℕ → ℕ → Option LinkFault → Type 0
+IsStageJudged p list from below None = (j n stage place : ℕ) (file : Name) (f : g.Fault) → from ≤ stage → stage < below → slice_get list j ≡ Some n → ProgramFault p file n stage place f → ⊥
+IsStageJudged p list from below (Some fault) = IsFirst p list from below fault

@@ -5,9 +5,9 @@ use Rattle.std.specs.Global.{Global}
 use Rattle.std.specs.declared.vec.Vec.{Vec}
 
 -- the items of a list, if it is there
-abbrev pub items_in : {T : Type 0} → Option (Vec T Global) → List T
-items_in None = []
-items_in (Some list) = list.items
+abbrev pub list_items : {T : Type 0} → Option (Vec T Global) → List T
+list_items None = []
+list_items (Some list) = list.items
 
 -- the same of one that is lent
 abbrev pub items_lent : {T : Type 0} → Option (Bor (Vec T Global)) → List T
@@ -16,4 +16,4 @@ items_lent (Some list) = list.now.items
 
 -- the list of a number; the empty one where there is none
 abbrev pub list_in : {T : Type 0} → List (Vec T Global) → ℕ → List T
-list_in lists n = items_in (slice_get lists n)
+list_in lists n = list_items (slice_get lists n)

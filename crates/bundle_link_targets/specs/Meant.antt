@@ -1,8 +1,7 @@
 -- What the uses of imported names mean, and what is meant by them.
-use Rattle.std.specs.Prelude.{◌≡◌, ◌⊎◌, ℕ, zero, suc, true, false, List, ◌∷◌, Some, None, Contains}
-use Rattle.bundle_tree_piece.specs.Item as h
-use Rattle.bundle_tree_piece.specs.Item.{Item, Head}
-use Rattle.std.specs.Prelude.{slice_get}
+use Rattle.std.specs.Prelude.{◌≡◌, ◌⊎◌, ℕ, zero, suc, true, false, List, ◌∷◌, Some, None, Contains, slice_get}
+use Rattle.bundle_syntax.specs.Item as h
+use Rattle.bundle_syntax.specs.Item.{Item, Head}
 use Rattle.bundle_rules.specs.Places.{Around, path_at, Occurrence, occurrence_at}
 use Rattle.bundle_rules.specs.Nodes.{Text}
 use Rattle.bundle_rules.specs.Statements.{Element, taken, written, own_statements, default_name}
@@ -15,12 +14,12 @@ use Rattle.bundle_tree_places.specs.Stated.{is_in_statement}
 use Rattle.bundle_link_tables.specs.Used.{UseEntry, uses_of}
 
 -- no more of these words is a linked name of a namespace
-abbrev pub IsRead : Program → Target → List Text → Type 0
-IsRead p t words = (d : ℕ) (x : Text) (rest : List Text) (u : Target) → t ≡ Namespace d → words ≡ x ∷ rest → Linked p d x u → ⊥
+abbrev pub EndsReads : Program → Target → List Text → Type 0
+EndsReads p t words = (d : ℕ) (x : Text) (rest : List Text) (u : Target) → t ≡ Namespace d → words ≡ x ∷ rest → Linked p d x u → ⊥
 
 -- `ReadsOn p t words n u`: reads of these words from t on, as many as are linked names of a namespace in turn, mean u; they are n
 pub data ReadsOn (p : Program) : Target → List Text → ℕ → Target → Type 0 where
-  done : {t : Target} {words : List Text} → IsRead p t words → ReadsOn p t words zero t
+  done : {t : Target} {words : List Text} → EndsReads p t words → ReadsOn p t words zero t
   on : {d n : ℕ} {x : Text} {words : List Text} {t u : Target} →
       Linked p d x t →
       ReadsOn p t words n u →
@@ -46,14 +45,14 @@ pub record LinksTo (p : Program) (m : ℕ) (t : Target) : Type 0 where
   pub linked : Linked p m name t
 
 -- the least set of targets that has what uses in reached modules mean, what the entry's names are linked to, and what the names of each namespace in it are linked to
-pub data IsTaken (p : Program) : Target → Type 0 where
+pub data IsTargetTaken (p : Program) : Target → Type 0 where
   by_use : {m n : ℕ} {its : UseEntry} {t : Target} →
       IsReached p m →
       Contains (uses_of (tree_of p m)) its →
       UseMeans p m its n t →
-      IsTaken p t
-  by_entry : {x : Text} {t : Target} → Linked p p.entry x t → IsTaken p t
-  by_names : {d : ℕ} {x : Text} {t : Target} → IsTaken p (Namespace d) → Linked p d x t → IsTaken p t
+      IsTargetTaken p t
+  by_entry : {x : Text} {t : Target} → Linked p p.entry x t → IsTargetTaken p t
+  by_names : {d : ℕ} {x : Text} {t : Target} → IsTargetTaken p (Namespace d) → Linked p d x t → IsTargetTaken p t
 
 -- a target that is no declaration
 abbrev pub IsShared : Target → Type 0

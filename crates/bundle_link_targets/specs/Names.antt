@@ -8,17 +8,17 @@ use Rattle.bundle_rules.specs.Program.{Program}
 use Rattle.bundle_rules.specs.Linking as l
 use Rattle.bundle_rules.specs.Linking.{Linked}
 use Rattle.bundle_link_tables.specs.declared.table.Export.{Export}
-use Rattle.bundle_link_index.specs.declared.target.Target.{Target}
+use Rattle.bundle_link_index.specs.declared.target.TargetRef.{TargetRef}
 use Rattle.bundle_link_index.specs.declared.target.LinkModule.{LinkModule}
 use Rattle.bundle_link_index.specs.declared.kinds.Kinds.{Kinds}
 use Rattle.bundle_link_index.specs.Says.{target_of}
 
 -- a name with its target
-abbrev pub Pair : Type 0
-Pair = Text × l.Target
+abbrev pub TargetPair : Type 0
+TargetPair = Text × l.Target
 
-abbrev pub pair_of : (Bor Text × Target) → Pair
-pair_of pair = (pair.0.now, target_of pair.1)
+abbrev pub target_pair : (Bor Text × TargetRef) → TargetPair
+target_pair pair = (pair.0.now, target_of pair.1)
 
 -- what a name is linked to
 abbrev pub IsLinkedTo : Program → ℕ → Text → Option l.Target → Type 0
@@ -26,12 +26,13 @@ IsLinkedTo p m x None = (t : l.Target) → Linked p m x t → ⊥
 IsLinkedTo p m x (Some t) = Linked p m x t
 
 -- a name is noted with its target, if it has one
-abbrev pub Notes : List Pair → Text → Option l.Target → List Pair → Type 0
-Notes old x None new = new ≡ old
-Notes old x (Some t) new = new ≡ old ++ (x, t) ∷ []
+abbrev pub NotesTarget : List TargetPair → Text → Option l.Target → List TargetPair → Type 0
+NotesTarget old x None new = new ≡ old
+NotesTarget old x (Some t) new = new ≡ old ++ (x, t) ∷ []
 
 -- those of these names that are linked are there with their targets, and no others
-pub record LinksAmong (p : Program) (m : ℕ) (names : List Text) (pairs : List Pair) : Type 0 where
+pub record LinksAmong (p : Program) (m : ℕ) (names : List Text)
+    (pairs : List TargetPair) : Type 0 where
   pub there : (x : Text) (t : l.Target) → Contains names x → Linked p m x t → Contains pairs (x, t)
   pub right : (x : Text) (t : l.Target) → Contains pairs (x, t) → Linked p m x t
 
@@ -40,7 +41,7 @@ abbrev pub HasNamesOf : Program → ℕ → List Text → Type 0
 HasNamesOf p m names = (x : Text) (t : l.Target) → Linked p m x t → Contains names x
 
 -- the names that a module links, with their targets
-abbrev pub AreLinkedOf : Program → ℕ → List Pair → Type 0
+abbrev pub AreLinkedOf : Program → ℕ → List TargetPair → Type 0
 AreLinkedOf p m pairs = (x : Text) (t : l.Target) → Contains pairs (x, t) ↔ Linked p m x t
 
 -- texts, as they are kept
@@ -48,7 +49,7 @@ abbrev pub texts_in : {S : Type 0} → IndexSet (Bor Text) S → List Text
 texts_in set = map (λ k. k.now) set.keys
 
 -- these are there now, and so are those that were
-pub record Gains (old : List Text) (Those : Text → Type 0) (new : List Text) : Type 0 where
+pub record GainsNames (old : List Text) (Those : Text → Type 0) (new : List Text) : Type 0 where
   pub kept : (x : Text) → Contains old x → Contains new x
   pub there : (x : Text) → Those x → Contains new x
 

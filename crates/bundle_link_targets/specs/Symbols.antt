@@ -10,15 +10,15 @@ use Rattle.bundle_rules.specs.Symbols.{identifier_of, same_taken, symbol_of_targ
 use Rattle.bundle_rules.specs.Program.{Program, is_external, IsReached}
 use Rattle.bundle_link_tables.specs.TablesOf.{taken_of}
 use Rattle.bundle_link_tables.specs.declared.table.Export.{Export}
-use Rattle.bundle_link_tables.specs.declared.table.Import.{Import}
+use Rattle.bundle_link_tables.specs.declared.table.ImportRef.{ImportRef}
 use Rattle.bundle_link_tables.specs.declared.table.Origin.{Origin}
 use Rattle.bundle_link_tables.specs.declared.table.Origin.TheVariants as o
 use Rattle.bundle_link_tables.specs.declared.table.Taken.{Taken}
 use Rattle.bundle_link_tables.specs.declared.table.Taken.TheVariants as k
-use Rattle.bundle_link_index.specs.contracts.target.TargetPartialEq.TheImpl as target_impl
+use Rattle.bundle_link_index.specs.contracts.target.TargetRefPartialEq.TheImpl as target_impl
 use Rattle.bundle_link_index.specs.declared.kinds.Kinds.{Kinds}
 use Rattle.bundle_link_index.specs.declared.target.LinkModule.{LinkModule}
-use Rattle.bundle_link_index.specs.declared.target.Target.{Target}
+use Rattle.bundle_link_index.specs.declared.target.TargetRef.{TargetRef}
 use Rattle.bundle_link_index.specs.Leads.{lead_of}
 use Rattle.bundle_link_index.specs.Said.{Lead, Outside, ToModule, ToCommonJs, Nowhere}
 use Rattle.bundle_link_index.specs.Says.{target_of}
@@ -36,16 +36,16 @@ same_target (l.CommonJs a m taken) (l.CommonJs b n other) = (a == b) && ((m == n
 same_target _ _ = false
 
 -- what the first of these calls a target
-abbrev pub called : l.Target → List Called → Option Text
-called t pairs = option_map (λ pair. pair.1) (find (λ pair. same_target t pair.0) pairs)
+abbrev pub called_first : l.Target → List Called → Option Text
+called_first t pairs = option_map (λ pair. pair.1) (find (λ pair. same_target t pair.0) pairs)
 
 -- what is noted of a target
-abbrev pub noted : {S : Type 0} → IndexMap Target (Bor Text) S → Target → Option Text
-noted symbols t = option_map (λ x. x.now) (get_by (target_impl.ghosts.eq t) symbols)
+abbrev pub noted_text : {S : Type 0} → IndexMap TargetRef (Bor Text) S → TargetRef → Option Text
+noted_text symbols t = option_map (λ x. x.now) (get_by (target_impl.ghosts.eq t) symbols)
 
 -- a table of symbols tells what the first of these calls each target
-abbrev pub Calls : {S : Type 0} → IndexMap Target (Bor Text) S → List Called → Type 0
-Calls symbols pairs = (t : Target) → noted symbols t ≡ called (target_of t) pairs
+abbrev pub Calls : {S : Type 0} → IndexMap TargetRef (Bor Text) S → List Called → Type 0
+Calls symbols pairs = (t : TargetRef) → noted_text symbols t ≡ called_first (target_of t) pairs
 
 -- what m takes, where a specifier leads so
 abbrev pub named_by : ℕ → Text → e.Taken → Lead → Option l.Target
@@ -58,7 +58,7 @@ abbrev pub named_as : Kinds → ℕ → Text → e.Taken → Option l.Target
 named_as kinds m s taken = named_by m s taken (lead_of kinds m s)
 
 -- what an import calls what it takes
-abbrev pub imported_by : Kinds → ℕ → Import → Option Called
+abbrev pub imported_by : Kinds → ℕ → ImportRef → Option Called
 imported_by kinds m import = option_map (λ t. (t, import.local.now)) (named_as kinds m import.specifier.now (taken_of import.taken))
 
 -- the whole that is exported
@@ -106,19 +106,19 @@ IsTakable p (l.External s taken) = IsTrue (is_external p s)
 IsTakable p (l.CommonJs m c taken) = IsReached p m × l.IsCommonJs p c
 
 -- what is taken by a target
-abbrev pub taken_by : l.Target → e.Taken
-taken_by (l.External s taken) = taken
-taken_by (l.CommonJs m c taken) = taken
-taken_by (l.Declared m x) = e.Whole
-taken_by (l.Namespace m) = e.Whole
+abbrev pub target_takes : l.Target → e.Taken
+target_takes (l.External s taken) = taken
+target_takes (l.CommonJs m c taken) = taken
+target_takes (l.Declared m x) = e.Whole
+target_takes (l.Namespace m) = e.Whole
 
 -- a target of an external or of a CommonJS module
-abbrev pub IsOutside : l.Target → Type 0
-IsOutside (l.Declared m x) = ⊥
-IsOutside (l.Namespace m) = ⊥
-IsOutside (l.External s taken) = Unit {0}
-IsOutside (l.CommonJs m c taken) = Unit {0}
+abbrev pub IsOutsideTarget : l.Target → Type 0
+IsOutsideTarget (l.Declared m x) = ⊥
+IsOutsideTarget (l.Namespace m) = ⊥
+IsOutsideTarget (l.External s taken) = Unit {0}
+IsOutsideTarget (l.CommonJs m c taken) = Unit {0}
 
 -- a table of symbols tells what targets of externals and of CommonJS modules are called
-abbrev pub AreSymbols : {S : Type 0} → Program → List ℕ → IndexMap Target (Bor Text) S → Type 0
-AreSymbols p list symbols = (t : Target) → IsOutside (target_of t) → IsTakable p (target_of t) → unwrap_or (noted symbols t) (name_else (taken_by (target_of t))) ≡ symbol_of_target p list (target_of t)
+abbrev pub AreSymbols : {S : Type 0} → Program → List ℕ → IndexMap TargetRef (Bor Text) S → Type 0
+AreSymbols p list symbols = (t : TargetRef) → IsOutsideTarget (target_of t) → IsTakable p (target_of t) → unwrap_or (noted_text symbols t) (name_else (target_takes (target_of t))) ≡ symbol_of_target p list (target_of t)

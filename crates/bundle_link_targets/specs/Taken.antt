@@ -11,7 +11,7 @@ use Rattle.bundle_rules.specs.Bundle.{AreNames}
 use Rattle.bundle_rules.specs.Entries as e
 use Rattle.bundle_rules.specs.Entries.{Named, Whole}
 use Rattle.bundle_rules.specs.Linking as l
-use Rattle.bundle_link_search.specs.Given.{IsIn}
+use Rattle.bundle_link_index.specs.Given.{IsIn}
 use Rattle.bundle_link_index.specs.Handed.{externals_by}
 use Rattle.bundle_link_index.specs.Leads.{flagged, lead_of, required_of}
 use Rattle.bundle_link_index.specs.Said.{Lead, Outside, ToModule, ToCommonJs, Nowhere}
@@ -37,36 +37,36 @@ abbrev pub specifier_of : External → Text
 specifier_of external = external.specifier.now
 
 -- the target that this of a giver is
-abbrev pub taken_from : Giver → e.Taken → l.Target
-taken_from (g.External specifier) taken = l.External specifier.now taken
-taken_from (g.CommonJs taker m) taken = l.CommonJs taker m taken
+abbrev pub target_from_giver : Giver → e.Taken → l.Target
+target_from_giver (g.External specifier) taken = l.External specifier.now taken
+target_from_giver (g.CommonJs taker m) taken = l.CommonJs taker m taken
 
 -- a target is this name of a giver, or none of it
 abbrev pub IsNameFrom : Giver → l.Target → Option (Bor Text) → Type 0
-IsNameFrom giver target None = (x : Text) → target ≡ taken_from giver (Named x) → ⊥
-IsNameFrom giver target (Some x) = target ≡ taken_from giver (Named x.now)
+IsNameFrom giver target None = (x : Text) → target ≡ target_from_giver giver (Named x) → ⊥
+IsNameFrom giver target (Some x) = target ≡ target_from_giver giver (Named x.now)
 
 -- the items of a list of names, if it is there
-abbrev pub names_of : Option (Vec (Bor Text) Global) → List (Bor Text)
-names_of None = []
-names_of (Some list) = list.items
+abbrev pub name_list : Option (Vec (Bor Text) Global) → List (Bor Text)
+name_list None = []
+name_list (Some list) = list.items
 
 -- the names that a table has for a giver
 abbrev pub names_for : {S : Type 0} → IndexMap Giver (Vec (Bor Text) Global) S → Giver → List (Bor Text)
-names_for names giver = names_of (get_by (giver_impl.ghosts.eq giver) names)
+names_for names giver = name_list (get_by (giver_impl.ghosts.eq giver) names)
 
 -- a name for one giver is one for another if they are the same
-abbrev pub given_to : Giver → Giver → Bor Text → List (Bor Text)
-given_to giver other name = if giver_impl.ghosts.eq giver other then name ∷ [] else []
+abbrev pub given_to_giver : Giver → Giver → Bor Text → List (Bor Text)
+given_to_giver giver other name = if giver_impl.ghosts.eq giver other then name ∷ [] else []
 
 -- these are the names of a giver among targets, each once
 pub record HoldNames (giver : Giver) (targets : List l.Target) (names : List (Bor Text)) : Type 0 where
   pub there : (x : Text) →
-      Contains targets (taken_from giver (Named x)) →
+      Contains targets (target_from_giver giver (Named x)) →
       Contains (map (λ name. name.now) names) x
   pub right : (x : Text) →
       Contains (map (λ name. name.now) names) x →
-      Contains targets (taken_from giver (Named x))
+      Contains targets (target_from_giver giver (Named x))
   pub once : IsDistinct (λ x y. bytes_eq x.now y.now) names
 
 -- a table has them of each giver
@@ -90,24 +90,24 @@ kept_if test None = None
 kept_if test (Some c) = if test c then Some c else None
 
 -- the CommonJS module to which a source of m leads
-abbrev pub load_by : Kinds → ℕ → Source → Option ℕ
-load_by kinds m source = if source.is_external then None else kept_if (flagged kinds.common_js.items) (required_of kinds.modules.now m source.specifier.now)
+abbrev pub module_loaded_by : Kinds → ℕ → Source → Option ℕ
+module_loaded_by kinds m source = if source.is_external then None else kept_if (flagged kinds.common_js.items) (required_of kinds.modules.now m source.specifier.now)
 
 -- those to which the sources of m lead, if it is there
 abbrev pub loads_by : Kinds → ℕ → Option LinkModule → List ℕ
 loads_by kinds m None = []
-loads_by kinds m (Some its) = filter_map (load_by kinds m) its.tables.now.sources.items
+loads_by kinds m (Some its) = filter_map (module_loaded_by kinds m) its.tables.now.sources.items
 
 abbrev pub loads_in : Kinds → ℕ → List ℕ
 loads_in kinds m = loads_by kinds m (slice_get kinds.modules.now m)
 
 -- what of a CommonJS module is meant in m
 abbrev pub IsLoad : List l.Target → ℕ → Loaded → Type 0
-IsLoad targets m loaded = AreTaken (IsIn targets) (l.CommonJs m loaded.module) (map (λ name. name.now) loaded.names.items) loaded.whole
+IsLoad targets m loaded = AreTaken (IsIn targets) (l.CommonJs m loaded.which) (map (λ name. name.now) loaded.names.items) loaded.whole
 
 -- all that m loads
 pub record AreLoadsOf (kinds : Kinds) (targets : List l.Target) (m : ℕ) (loads : List Loaded) : Type 0 where
-  pub modules : map (λ loaded. loaded.module) loads ≡ numbers_once (loads_in kinds m)
+  pub modules : map (λ loaded. loaded.which) loads ≡ numbers_once (loads_in kinds m)
   pub taken : All (IsLoad targets m) loads
 
 -- Stars of externals.
@@ -131,7 +131,8 @@ abbrev pub starred_in : Kinds → ℕ → List Text
 starred_in kinds m = starred_at (lead_of kinds m) (slice_get kinds.modules.now m)
 
 -- `Picks Has all picked`: of these, those that `Has` holds of, in their order
-pub data Picks {A : Type 0} (Has : A → Type 0) : List A → List A → Type 0 where
-  nothing : Picks Has [] []
-  picked : {x : A} {xs ys : List A} → Has x → Picks Has xs ys → Picks Has (x ∷ xs) (x ∷ ys)
-  left : {x : A} {xs ys : List A} → (Has x → ⊥) → Picks Has xs ys → Picks Has (x ∷ xs) ys
+pub data PicksThose {A : Type 0} (Has : A → Type 0) : List A → List A → Type 0 where
+  nothing : PicksThose Has [] []
+  picked : {x : A} {xs ys : List A} → Has x → PicksThose Has xs ys →
+      PicksThose Has (x ∷ xs) (x ∷ ys)
+  left : {x : A} {xs ys : List A} → (Has x → ⊥) → PicksThose Has xs ys → PicksThose Has (x ∷ xs) ys

@@ -7,37 +7,37 @@ ghost use Rattle.bundle_rules.specs.Linking.{IsMissing};
 ghost use Rattle.bundle_rules.specs.Program.{Program};
 ghost use Rattle.bundle_link_index.specs.Leads.{required_of};
 ghost use Rattle.bundle_link_index.specs.Outside.{IsIndexOf};
-ghost use Rattle.bundle_link_index.specs.Programs.{AreModulesOf, Asks};
-ghost use Rattle.bundle_link_targets.specs.Judged.{IsFoundIn, IsJudged, fault_by};
+ghost use Rattle.bundle_link_index.specs.Programs.{AreModulesKnown, AsksFor};
+ghost use Rattle.bundle_link_targets.specs.Judged.{IsFoundIn, IsStageJudged, fault_by};
 ghost use Rattle.bundle_link_targets.specs.Found.{HoldsMeant, targets_in};
 ghost use Rattle.bundle_link_targets.specs.Stages.{AreKindsOf, IsWrongBy, IsWrongIn, LeadsToEs, stage_of};
 
-use crate::target::{Fault, FaultKind, Target};
+use crate::target::{FaultKind, LinkFault, TargetRef};
 use bundle_link_index::index::DEFAULT;
-use bundle_link_index::{Answer, Asked, Index, Kinds, Lead, Own, taking};
+use bundle_link_index::{Answer, Asked, Index, Kinds, Lead, OwnTarget, taking};
 use bundle_link_tables::{AskedName, Taken};
 use bundle_scope_denote::texts::TextSet;
 use std::alloc::{AllocError, Global};
 
 /// The first fault of the literal calls of `require`: of the entry, and then of a module that is no script.
-pub fn call_fault_of<'a>(kinds: &Kinds<'_, '_, 'a>) -> Option<Fault<'a>>
+pub fn call_fault_of<'a>(kinds: &Kinds<'_, '_, 'a>) -> Option<LinkFault<'a>>
     ensures { (p : Program) → AreKindsOf p kinds.now →
-        IsJudged p kinds.now.list.now 0 2 result }
+        IsStageJudged p kinds.now.list.now 0 2 result }
 {
     first_of_two(kinds, Stage::Entries, Stage::Modules)
 }
 
 // The first literal call of a module that is of the entry.
-fn entry_fault<'a>(kinds: &Kinds<'_, '_, 'a>, module: usize) -> Option<Fault<'a>>
+fn entry_fault<'a>(kinds: &Kinds<'_, '_, 'a>, which: usize) -> Option<LinkFault<'a>>
     ensures { (p : Program) → AreKindsOf p kinds.now →
-        IsFoundIn p 0 «module» result }
+        IsFoundIn p 0 which result }
 {
-    let tables = kinds.tables(module)?;
+    let tables = kinds.tables(which)?;
     for call in &tables.calls {
-        if is_of_entry(kinds, module, call.specifier) {
-            return Some(Fault {
+        if is_of_entry(kinds, which, call.specifier) {
+            return Some(LinkFault {
                 kind: FaultKind::RequiredEntry,
-                module,
+                which,
                 name: call.specifier,
             });
         }
@@ -46,27 +46,27 @@ fn entry_fault<'a>(kinds: &Kinds<'_, '_, 'a>, module: usize) -> Option<Fault<'a>
 }
 
 // Whether a specifier leads to the entry.
-fn is_of_entry(kinds: &Kinds, module: usize, specifier: &str) -> bool
+fn is_of_entry(kinds: &Kinds, which: usize, specifier: &str) -> bool
     ensures { IsTrue result
-        ↔ (required_of kinds.now.modules.now «module» specifier.now ≡ Some kinds.now.entry) }
+        ↔ (required_of kinds.now.modules.now which specifier.now ≡ Some kinds.now.entry) }
 {
-    match kinds.required(module, specifier) {
+    match kinds.required(which, specifier) {
         Some(number) => number == kinds.entry,
         None => false,
     }
 }
 
 // The first literal call of a module that is of a module which is no script.
-fn es_fault<'a>(kinds: &Kinds<'_, '_, 'a>, module: usize) -> Option<Fault<'a>>
+fn es_fault<'a>(kinds: &Kinds<'_, '_, 'a>, which: usize) -> Option<LinkFault<'a>>
     ensures { (p : Program) → AreKindsOf p kinds.now →
-        IsFoundIn p 1 «module» result }
+        IsFoundIn p 1 which result }
 {
-    let tables = kinds.tables(module)?;
+    let tables = kinds.tables(which)?;
     for call in &tables.calls {
-        if is_of_module(kinds, module, call.specifier) {
-            return Some(Fault {
+        if is_of_module(kinds, which, call.specifier) {
+            return Some(LinkFault {
                 kind: FaultKind::RequiredEsModule,
-                module,
+                which,
                 name: call.specifier,
             });
         }
@@ -75,11 +75,11 @@ fn es_fault<'a>(kinds: &Kinds<'_, '_, 'a>, module: usize) -> Option<Fault<'a>>
 }
 
 // Whether a specifier leads to a module that is no script.
-fn is_of_module(kinds: &Kinds, module: usize, specifier: &str) -> bool
-    ensures { (p : Program) → AreModulesOf p kinds.now →
-        IsTrue result ↔ LeadsToEs p «module» specifier.now }
+fn is_of_module(kinds: &Kinds, which: usize, specifier: &str) -> bool
+    ensures { (p : Program) → AreModulesKnown p kinds.now →
+        IsTrue result ↔ LeadsToEs p which specifier.now }
 {
-    match kinds.required(module, specifier) {
+    match kinds.required(which, specifier) {
         Some(number) => match kinds.tables(number) {
             Some(tables) => !tables.is_script,
             None => false,
@@ -93,11 +93,11 @@ pub fn link_fault_of<'a>(
     alloc: Global,
     kinds: &Kinds<'_, '_, 'a>,
     index: &mut Index<'a>,
-    meant: &TextSet<Target<'a>>,
-) -> Result<Option<Fault<'a>>, AllocError>
+    meant: &TextSet<TargetRef<'a>>,
+) -> Result<Option<LinkFault<'a>>, AllocError>
     ensures right { IfOk result (λ found. (p : Program) →
         AreKindsOf p kinds.now → IsIndexOf p index.old →
-        HoldsMeant p (targets_in meant.now) → IsJudged p kinds.now.list.now 3 9 found) }
+        HoldsMeant p (targets_in meant.now) → IsStageJudged p kinds.now.list.now 3 9 found) }
     ensures same { OnOk result (index.new ≡ index.old) }
 {
     if let Some(fault) = first_of_two(kinds, Stage::Awaits, Stage::Stars) {
@@ -119,14 +119,14 @@ fn names_fault<'a>(
     alloc: Global,
     kinds: &Kinds<'_, '_, 'a>,
     index: &mut Index<'a>,
-) -> Result<Option<Fault<'a>>, AllocError>
+) -> Result<Option<LinkFault<'a>>, AllocError>
     ensures right { IfOk result (λ found. (p : Program) →
         AreKindsOf p kinds.now → IsIndexOf p index.old →
-        IsJudged p kinds.now.list.now 5 6 found) }
+        IsStageJudged p kinds.now.list.now 5 6 found) }
     ensures same { OnOk result (index.new ≡ index.old) }
 {
-    for module in kinds.list {
-        let found = name_fault(alloc, kinds, index, *module)?;
+    for which in kinds.list {
+        let found = name_fault(alloc, kinds, index, *which)?;
         if let Some(fault) = found {
             return Ok(Some(fault));
         }
@@ -139,14 +139,14 @@ fn objects_fault<'a>(
     alloc: Global,
     kinds: &Kinds<'_, '_, 'a>,
     index: &mut Index<'a>,
-    meant: &TextSet<Target<'a>>,
-) -> Result<Option<Fault<'a>>, AllocError>
+    meant: &TextSet<TargetRef<'a>>,
+) -> Result<Option<LinkFault<'a>>, AllocError>
     ensures right { IfOk result (λ found. (p : Program) → IsIndexOf p index.old →
-        HoldsMeant p (targets_in meant.now) → IsJudged p kinds.now.list.now 6 7 found) }
+        HoldsMeant p (targets_in meant.now) → IsStageJudged p kinds.now.list.now 6 7 found) }
     ensures same { OnOk result (index.new ≡ index.old) }
 {
-    for module in kinds.list {
-        let found = object_fault(alloc, index, meant, *module)?;
+    for which in kinds.list {
+        let found = object_fault(alloc, index, meant, *which)?;
         if let Some(fault) = found {
             return Ok(Some(fault));
         }
@@ -158,21 +158,21 @@ fn objects_fault<'a>(
 fn object_fault<'a>(
     alloc: Global,
     index: &mut Index<'a>,
-    meant: &TextSet<Target<'a>>,
-    module: usize,
-) -> Result<Option<Fault<'a>>, AllocError>
+    meant: &TextSet<TargetRef<'a>>,
+    which: usize,
+) -> Result<Option<LinkFault<'a>>, AllocError>
     ensures right { IfOk result (λ found. (p : Program) → IsIndexOf p index.old →
-        HoldsMeant p (targets_in meant.now) → IsFoundIn p 6 «module» found) }
+        HoldsMeant p (targets_in meant.now) → IsFoundIn p 6 which found) }
     ensures same { OnOk result (index.new ≡ index.old) }
 {
-    if !meant.contains(&Target::Namespace { module }) {
+    if !meant.contains(&TargetRef::Namespace { which }) {
         return Ok(None);
     }
-    let is_starred = index.has_external_star(alloc, module)?;
+    let is_starred = index.has_external_star(alloc, which)?;
     if is_starred {
-        return Ok(Some(Fault {
+        return Ok(Some(LinkFault {
             kind: FaultKind::NamespaceOverExternalStar,
-            module,
+            which,
             name: "",
         }));
     }
@@ -191,10 +191,10 @@ enum Stage {
 }
 
 // The first fault of a stage, and then of the next, among the listed modules.
-fn first_of_two<'a>(kinds: &Kinds<'_, '_, 'a>, stage: Stage, next: Stage) -> Option<Fault<'a>>
+fn first_of_two<'a>(kinds: &Kinds<'_, '_, 'a>, stage: Stage, next: Stage) -> Option<LinkFault<'a>>
     ensures { (p : Program) → AreKindsOf p kinds.now →
         stage_of next ≡ suc (stage_of stage) →
-        IsJudged p kinds.now.list.now (stage_of stage) (suc (stage_of next)) result }
+        IsStageJudged p kinds.now.list.now (stage_of stage) (suc (stage_of next)) result }
 {
     match first_of(kinds, stage) {
         Some(fault) => Some(fault),
@@ -203,12 +203,12 @@ fn first_of_two<'a>(kinds: &Kinds<'_, '_, 'a>, stage: Stage, next: Stage) -> Opt
 }
 
 // The first fault of a stage among the listed modules.
-fn first_of<'a>(kinds: &Kinds<'_, '_, 'a>, stage: Stage) -> Option<Fault<'a>>
+fn first_of<'a>(kinds: &Kinds<'_, '_, 'a>, stage: Stage) -> Option<LinkFault<'a>>
     ensures { (p : Program) → AreKindsOf p kinds.now →
-        IsJudged p kinds.now.list.now (stage_of stage) (suc (stage_of stage)) result }
+        IsStageJudged p kinds.now.list.now (stage_of stage) (suc (stage_of stage)) result }
 {
-    for module in kinds.list {
-        if let Some(fault) = fault_in(kinds, stage, *module) {
+    for which in kinds.list {
+        if let Some(fault) = fault_in(kinds, stage, *which) {
             return Some(fault);
         }
     }
@@ -216,30 +216,30 @@ fn first_of<'a>(kinds: &Kinds<'_, '_, 'a>, stage: Stage) -> Option<Fault<'a>>
 }
 
 // The first fault of a stage in a module.
-fn fault_in<'a>(kinds: &Kinds<'_, '_, 'a>, stage: Stage, module: usize) -> Option<Fault<'a>>
+fn fault_in<'a>(kinds: &Kinds<'_, '_, 'a>, stage: Stage, which: usize) -> Option<LinkFault<'a>>
     ensures { (p : Program) → AreKindsOf p kinds.now →
-        IsFoundIn p (stage_of stage) «module» result }
+        IsFoundIn p (stage_of stage) which result }
 {
     match stage {
-        Stage::Entries => entry_fault(kinds, module),
-        Stage::Modules => es_fault(kinds, module),
-        Stage::Awaits => await_fault(kinds, module),
-        Stage::Stars => star_fault(kinds, module),
-        Stage::Externals => external_fault(kinds, module),
-        Stage::Arguments => arguments_fault(kinds, module),
+        Stage::Entries => entry_fault(kinds, which),
+        Stage::Modules => es_fault(kinds, which),
+        Stage::Awaits => await_fault(kinds, which),
+        Stage::Stars => star_fault(kinds, which),
+        Stage::Externals => external_fault(kinds, which),
+        Stage::Arguments => arguments_fault(kinds, which),
     }
 }
 
 // Whether an `await` stands outside functions in a CommonJS module.
-fn await_fault<'a>(kinds: &Kinds<'_, '_, 'a>, module: usize) -> Option<Fault<'a>>
+fn await_fault<'a>(kinds: &Kinds<'_, '_, 'a>, which: usize) -> Option<LinkFault<'a>>
     ensures { (p : Program) → AreKindsOf p kinds.now →
-        IsFoundIn p 3 «module» result }
+        IsFoundIn p 3 which result }
 {
-    let tables = kinds.tables(module)?;
-    if tables.awaits && kinds.is_common_js(module) {
-        return Some(Fault {
+    let tables = kinds.tables(which)?;
+    if tables.awaits && kinds.is_common_js(which) {
+        return Some(LinkFault {
             kind: FaultKind::AwaitInCommonJs,
-            module,
+            which,
             name: "",
         });
     }
@@ -247,16 +247,16 @@ fn await_fault<'a>(kinds: &Kinds<'_, '_, 'a>, module: usize) -> Option<Fault<'a>
 }
 
 // The first star of a CommonJS module.
-fn star_fault<'a>(kinds: &Kinds<'_, '_, 'a>, module: usize) -> Option<Fault<'a>>
+fn star_fault<'a>(kinds: &Kinds<'_, '_, 'a>, which: usize) -> Option<LinkFault<'a>>
     ensures { (p : Program) → AreKindsOf p kinds.now →
-        IsFoundIn p 4 «module» result }
+        IsFoundIn p 4 which result }
 {
-    let tables = kinds.tables(module)?;
+    let tables = kinds.tables(which)?;
     for star in &tables.stars {
-        if let Lead::CommonJs(_) = kinds.lead(module, *star) {
-            return Some(Fault {
+        if let Lead::CommonJs(_) = kinds.lead(which, *star) {
+            return Some(LinkFault {
                 kind: FaultKind::StarOfCommonJs,
-                module,
+                which,
                 name: *star,
             });
         }
@@ -265,19 +265,19 @@ fn star_fault<'a>(kinds: &Kinds<'_, '_, 'a>, module: usize) -> Option<Fault<'a>>
 }
 
 // The first import or re-export of an external, where the bundle is one function's call.
-fn external_fault<'a>(kinds: &Kinds<'_, '_, 'a>, module: usize) -> Option<Fault<'a>>
+fn external_fault<'a>(kinds: &Kinds<'_, '_, 'a>, which: usize) -> Option<LinkFault<'a>>
     ensures { (p : Program) → AreKindsOf p kinds.now →
-        IsFoundIn p 7 «module» result }
+        IsFoundIn p 7 which result }
 {
     if !kinds.setting.iife {
         return None;
     }
-    let tables = kinds.tables(module)?;
+    let tables = kinds.tables(which)?;
     for source in &tables.sources {
         if source.is_external {
-            return Some(Fault {
+            return Some(LinkFault {
                 kind: FaultKind::ExternalUnderIife,
-                module,
+                which,
                 name: source.specifier,
             });
         }
@@ -287,18 +287,18 @@ fn external_fault<'a>(kinds: &Kinds<'_, '_, 'a>, module: usize) -> Option<Fault<
 
 // Whether an `arguments` that nothing binds stands in an ECMAScript module, where the bundle is one
 // function's call.
-fn arguments_fault<'a>(kinds: &Kinds<'_, '_, 'a>, module: usize) -> Option<Fault<'a>>
+fn arguments_fault<'a>(kinds: &Kinds<'_, '_, 'a>, which: usize) -> Option<LinkFault<'a>>
     ensures { (p : Program) → AreKindsOf p kinds.now →
-        IsFoundIn p 8 «module» result }
+        IsFoundIn p 8 which result }
 {
     if !kinds.setting.iife {
         return None;
     }
-    let tables = kinds.tables(module)?;
-    if tables.has_free_arguments && !kinds.is_common_js(module) {
-        return Some(Fault {
+    let tables = kinds.tables(which)?;
+    if tables.has_free_arguments && !kinds.is_common_js(which) {
+        return Some(LinkFault {
             kind: FaultKind::ArgumentsUnderIife,
-            module,
+            which,
             name: "",
         });
     }
@@ -310,18 +310,18 @@ fn name_fault<'a>(
     alloc: Global,
     kinds: &Kinds<'_, '_, 'a>,
     index: &mut Index<'a>,
-    module: usize,
-) -> Result<Option<Fault<'a>>, AllocError>
+    which: usize,
+) -> Result<Option<LinkFault<'a>>, AllocError>
     ensures right { IfOk result (λ found. (p : Program) →
         AreKindsOf p kinds.now → IsIndexOf p index.old →
-        IsFoundIn p 5 «module» found) }
+        IsFoundIn p 5 which found) }
     ensures same { OnOk result (index.new ≡ index.old) }
 {
-    let Some(tables) = kinds.tables(module) else {
+    let Some(tables) = kinds.tables(which) else {
         return Ok(None);
     };
     for asked in &tables.asked {
-        let found = taken_fault(alloc, kinds, index, module, *asked)?;
+        let found = taken_fault(alloc, kinds, index, which, *asked)?;
         if let Some(fault) = found {
             return Ok(Some(fault));
         }
@@ -334,20 +334,20 @@ fn taken_fault<'a>(
     alloc: Global,
     kinds: &Kinds<'_, '_, 'a>,
     index: &mut Index<'a>,
-    module: usize,
+    which: usize,
     asked: AskedName<'a>,
-) -> Result<Option<Fault<'a>>, AllocError>
+) -> Result<Option<LinkFault<'a>>, AllocError>
     ensures right { IfOk result (λ found. (p : Program) →
-        AreModulesOf p kinds.now → IsIndexOf p index.old →
-        Asks p «module» asked.entry.specifier.now →
-        IsWrongBy p «module» asked.entry.specifier.now asked.entry.name.now found) }
+        AreModulesKnown p kinds.now → IsIndexOf p index.old →
+        AsksFor p which asked.entry.specifier.now →
+        IsWrongBy p which asked.entry.specifier.now asked.entry.name.now found) }
     ensures same { OnOk result (index.new ≡ index.old) }
 {
     let taken = Taken::Named(asked.name);
-    match taking(kinds, module, asked.specifier, taken, None) {
-        Own::Leads(asked) => asked_fault(alloc, index, module, asked),
-        Own::Gives(_) => Ok(None),
-        Own::Nothing => Ok(None),
+    match taking(kinds, which, asked.specifier, taken, None) {
+        OwnTarget::Leads(asked) => asked_fault(alloc, index, which, asked),
+        OwnTarget::Gives(_) => Ok(None),
+        OwnTarget::Nothing => Ok(None),
     }
 }
 
@@ -355,11 +355,11 @@ fn taken_fault<'a>(
 fn asked_fault<'a>(
     alloc: Global,
     index: &mut Index<'a>,
-    module: usize,
+    which: usize,
     asked: Asked<'a>,
-) -> Result<Option<Fault<'a>>, AllocError>
+) -> Result<Option<LinkFault<'a>>, AllocError>
     ensures right { IfOk result (λ found. (p : Program) → IsIndexOf p index.old →
-        IsWrongIn p «module» asked.entry.module asked.entry.name.now found) }
+        IsWrongIn p which asked.entry.which asked.entry.name.now found) }
     ensures same { OnOk result (index.new ≡ index.old) }
 {
     let answer = index.answer(alloc, asked)?;
@@ -368,9 +368,9 @@ fn asked_fault<'a>(
         Answer::Two(_, _) => FaultKind::AmbiguousExport,
         Answer::None => missing_kind(alloc, index, asked)?,
     };
-    Ok(Some(Fault {
+    Ok(Some(LinkFault {
         kind,
-        module,
+        which,
         name: asked.name,
     }))
 }
@@ -382,15 +382,15 @@ fn missing_kind<'a>(
     asked: Asked<'a>,
 ) -> Result<FaultKind, AllocError>
     ensures right { IfOk result (λ kind. (p : Program) → IsIndexOf p index.old →
-        IsMissing p asked.entry.module asked.entry.name.now → (file : Name) →
-        NameFault p asked.entry.module asked.entry.name.now file
+        IsMissing p asked.entry.which asked.entry.name.now → (file : Name) →
+        NameFault p asked.entry.which asked.entry.name.now file
         (fault_by kind file asked.entry.name.now)) }
     ensures same { OnOk result (index.new ≡ index.old) }
 {
     if asked.name == DEFAULT {
         return Ok(FaultKind::MissingExport);
     }
-    let is_starred = index.has_external_star(alloc, asked.module)?;
+    let is_starred = index.has_external_star(alloc, asked.which)?;
     if is_starred {
         return Ok(FaultKind::ExternalStarOnly);
     }

@@ -13,5 +13,5 @@ pub mod target;
 
 pub use linking::Linking;
 pub use target::{
-    External, Fault, FaultKind, LinkModule, Loaded, Meaning, Resolution, Setting, Target,
+    External, FaultKind, LinkFault, LinkModule, Loaded, Meaning, ResolvedTo, Setting, TargetRef,
 };

@@ -9,32 +9,32 @@ ghost use Rattle.bundle_rules.specs.Program.{Program, tree_of};
 ghost use Rattle.bundle_rules.specs.Tables.{TellsMeant};
 ghost use Rattle.bundle_link_tables.specs.Exported.{Finds};
 ghost use Rattle.bundle_link_tables.specs.TablesOf.{import_entry_of};
-ghost use Rattle.bundle_link_search.specs.Given.{Adds, IsIn};
+ghost use Rattle.bundle_link_index.specs.Given.{AddsMissing, IsIn};
 ghost use Rattle.bundle_link_index.specs.Outside.{IsIndexOf};
-ghost use Rattle.bundle_link_index.specs.Programs.{AreModulesOf, IsTableOf};
+ghost use Rattle.bundle_link_index.specs.Programs.{AreModulesKnown, IsTableOf};
 ghost use Rattle.bundle_link_index.specs.Says.{target_of};
 ghost use Rattle.bundle_link_tables.specs.Used.{name_read, use_entry_of, uses_of};
 ghost use Rattle.bundle_link_targets.specs.Meant.{AnyMeans, AreModules, LinksTo, ReadsOn};
-ghost use Rattle.bundle_link_targets.specs.Found.{Closes, HoldsMeant, HoldsTaken, IsImported, IsMeaning, IsNameOf, IsNext, MeansSome, UsedIn, reads_by, target_in, targets_in};
+ghost use Rattle.bundle_link_targets.specs.Found.{Closes, HoldsMeant, HoldsTaken, IsImported, IsMeaning, IsNameOf, IsReadTarget, MeansSome, UsedIn, reads_by, target_in, targets_in};
 ghost use Rattle.bundle_link_targets.specs.Lists.{list_in};
-ghost use Rattle.bundle_link_targets.specs.Handed.{AreLinkedIn, AreMeaningsOf, Fills, HoldsLinked, HoldsMeanings};
+ghost use Rattle.bundle_link_targets.specs.Handed.{AreLinkedIn, AreMeaningsOf, HoldsOfLists, HoldsLinked, HoldsMeanings};
 
 use crate::lists::{no_lists, put_at};
 use crate::names::linked_names;
-use crate::target::{Meaning, Target};
-use bundle_link_index::{Asked, Index, Kinds, Own, locals_of, taking};
-use bundle_link_tables::{Import, Read, Tables, Use};
+use crate::target::{Meaning, TargetRef};
+use bundle_link_index::{Asked, Index, Kinds, OwnTarget, locals_of, taking};
+use bundle_link_tables::{ImportRef, MemberRead, Tables, Use};
 use bundle_scope_denote::texts::{TextMap, TextSet};
 use std::alloc::{AllocError, Global};
 
 /// What is meant, what uses of imported names mean, and which names modules link.
 #[derive(Drop)]
 pub struct Meant<'a> {
-    pub targets: TextSet<Target<'a>>,
+    pub targets: TextSet<TargetRef<'a>>,
     /// For each module and each of its uses; none of modules that are not listed.
     pub meanings: Vec<Vec<Option<Meaning<'a>>>>,
     /// For each module; none but for the entry and modules whose namespace object is meant.
-    pub linked: Vec<Vec<(&'a str, Target<'a>)>>,
+    pub linked: Vec<Vec<(&'a str, TargetRef<'a>)>>,
 }
 
 /// Finds what is meant.
@@ -46,18 +46,18 @@ pub fn meant_in<'a>(
     ensures right { IfOk result (λ meant.
         (p : Program) →
         IsIndexOf p index.old →
-        AreModulesOf p kinds.now →
+        AreModulesKnown p kinds.now →
         AreModules p →
         HoldsMeant p (targets_in meant.targets)) }
     ensures meanings { IfOk result (λ meant.
         (p : Program) →
         IsIndexOf p index.old →
-        AreModulesOf p kinds.now →
+        AreModulesKnown p kinds.now →
         HoldsMeanings p meant.meanings.items) }
     ensures linked { IfOk result (λ meant.
         (p : Program) →
         IsIndexOf p index.old →
-        AreModulesOf p kinds.now →
+        AreModulesKnown p kinds.now →
         AreModules p →
         HoldsLinked p meant.linked.items) }
     ensures same { OnOk result (index.new ≡ index.old) }
@@ -82,11 +82,11 @@ fn nothing_meant<'a>(alloc: Global, count: usize) -> Result<Meant<'a>, AllocErro
 
 impl<'a> Meant<'a> {
     /// Whether the object of a module's namespace is meant.
-    pub fn has_object(&self, module: usize) -> bool
+    pub fn has_object(&self, which: usize) -> bool
         ensures { (p : Program) →
-            HoldsMeant p (targets_in self.now.targets) → TellsMeant p «module» result }
+            HoldsMeant p (targets_in self.now.targets) → TellsMeant p which result }
     {
-        self.targets.contains(&Target::Namespace { module })
+        self.targets.contains(&TargetRef::Namespace { which })
     }
 
     // Finds what is meant, where nothing is noted.
@@ -98,15 +98,15 @@ impl<'a> Meant<'a> {
     ) -> Result<(), AllocError>
         ensures right { (p : Program) →
             IsIndexOf p index.old →
-            AreModulesOf p kinds.now →
+            AreModulesKnown p kinds.now →
             targets_in self.old.targets ≡ [] →
             OnOk result (HoldsTaken p (targets_in self.new.targets)) }
-        ensures meanings { (p : Program) → IsIndexOf p index.old → AreModulesOf p kinds.now →
+        ensures meanings { (p : Program) → IsIndexOf p index.old → AreModulesKnown p kinds.now →
             length self.old.meanings.items ≡ length kinds.now.modules.now →
             OnOk result (HoldsMeanings p self.new.meanings.items) }
         ensures linked { (p : Program) →
             IsIndexOf p index.old →
-            AreModulesOf p kinds.now →
+            AreModulesKnown p kinds.now →
             length self.old.linked.items ≡ length kinds.now.modules.now →
             OnOk result
             ((d : ℕ) →
@@ -129,22 +129,22 @@ impl<'a> Meant<'a> {
     ) -> Result<(), AllocError>
         ensures right { (p : Program) →
             IsIndexOf p index.old →
-            AreModulesOf p kinds.now →
+            AreModulesKnown p kinds.now →
             OnOk result
-            (Adds (targets_in self.old.targets) (UsedIn p kinds.now.list.now)
+            (AddsMissing (targets_in self.old.targets) (UsedIn p kinds.now.list.now)
             (targets_in self.new.targets)) }
         ensures meanings { (p : Program) →
             IsIndexOf p index.old →
-            AreModulesOf p kinds.now →
+            AreModulesKnown p kinds.now →
             length self.old.meanings.items ≡ length kinds.now.modules.now →
             OnOk result
-            (Fills (AreMeaningsOf p) (Contains kinds.now.list.now) self.old.meanings.items
+            (HoldsOfLists (AreMeaningsOf p) (Contains kinds.now.list.now) self.old.meanings.items
             self.new.meanings.items) }
         ensures linked { OnOk result (self.new.linked ≡ self.old.linked) }
         ensures same { OnOk result (index.new ≡ index.old) }
     {
-        for module in kinds.list {
-            self.add_uses_in(alloc, kinds, index, *module)?;
+        for which in kinds.list {
+            self.add_uses_in(alloc, kinds, index, *which)?;
         }
         Ok(())
     }
@@ -155,28 +155,28 @@ impl<'a> Meant<'a> {
         alloc: Global,
         kinds: &Kinds<'_, '_, 'a>,
         index: &mut Index<'a>,
-        module: usize,
+        which: usize,
     ) -> Result<(), AllocError>
         ensures right { (p : Program) →
             IsIndexOf p index.old →
-            AreModulesOf p kinds.now →
+            AreModulesKnown p kinds.now →
             OnOk result
-            (Adds (targets_in self.old.targets)
-            (AnyMeans p «module» (uses_of (tree_of p «module»)))
+            (AddsMissing (targets_in self.old.targets)
+            (AnyMeans p which (uses_of (tree_of p which)))
             (targets_in self.new.targets)) }
         ensures meanings { (p : Program) →
             IsIndexOf p index.old →
-            AreModulesOf p kinds.now →
+            AreModulesKnown p kinds.now →
             length self.old.meanings.items ≡ length kinds.now.modules.now →
             OnOk result
-            (Fills (AreMeaningsOf p) (λ n. n ≡ «module») self.old.meanings.items
+            (HoldsOfLists (AreMeaningsOf p) (λ n. n ≡ which) self.old.meanings.items
             self.new.meanings.items) }
         ensures linked { OnOk result (self.new.linked ≡ self.old.linked) }
         ensures same { OnOk result (index.new ≡ index.old) }
     {
-        match kinds.tables(module) {
+        match kinds.tables(which) {
             Some(tables) => {
-                self.add_uses(alloc, kinds, index, module, tables)?;
+                self.add_uses(alloc, kinds, index, which, tables)?;
                 Ok(())
             }
             None => Ok(()),
@@ -189,31 +189,31 @@ impl<'a> Meant<'a> {
         alloc: Global,
         kinds: &Kinds<'_, '_, 'a>,
         index: &mut Index<'a>,
-        module: usize,
+        which: usize,
         tables: &Tables<'a>,
     ) -> Result<(), AllocError>
         ensures right { (p : Program) →
             IsIndexOf p index.old →
-            AreModulesOf p kinds.now →
-            IsTableOf p «module» tables.now →
+            AreModulesKnown p kinds.now →
+            IsTableOf p which tables.now →
             OnOk result
-            (Adds (targets_in self.old.targets)
-            (AnyMeans p «module»
+            (AddsMissing (targets_in self.old.targets)
+            (AnyMeans p which
             (map (use_entry_of tables.now.reads.items) tables.now.uses.items))
             (targets_in self.new.targets)) }
         ensures meanings { (p : Program) →
             IsIndexOf p index.old →
-            AreModulesOf p kinds.now →
-            IsTableOf p «module» tables.now →
-            «module» < length self.old.meanings.items →
+            AreModulesKnown p kinds.now →
+            IsTableOf p which tables.now →
+            which < length self.old.meanings.items →
             OnOk result
-            (Fills (AreMeaningsOf p) (λ n. n ≡ «module») self.old.meanings.items
+            (HoldsOfLists (AreMeaningsOf p) (λ n. n ≡ which) self.old.meanings.items
             self.new.meanings.items) }
         ensures linked { OnOk result (self.new.linked ≡ self.old.linked) }
         ensures same { OnOk result (index.new ≡ index.old) }
     {
         let locals = locals_of(alloc, tables)?;
-        self.add_uses_by(alloc, kinds, index, module, tables, &locals)
+        self.add_uses_by(alloc, kinds, index, which, tables, &locals)
     }
 
     // The same, where these are what the imports of the module bind.
@@ -222,28 +222,28 @@ impl<'a> Meant<'a> {
         alloc: Global,
         kinds: &Kinds<'_, '_, 'a>,
         index: &mut Index<'a>,
-        module: usize,
+        which: usize,
         tables: &Tables<'a>,
-        locals: &TextMap<&'a str, Import<'a>>,
+        locals: &TextMap<&'a str, ImportRef<'a>>,
     ) -> Result<(), AllocError>
         ensures right { (p : Program) →
             IsIndexOf p index.old →
-            AreModulesOf p kinds.now →
-            IsTableOf p «module» tables.now →
+            AreModulesKnown p kinds.now →
+            IsTableOf p which tables.now →
             Finds locals.now (map import_entry_of tables.now.imports.items) →
             OnOk result
-            (Adds (targets_in self.old.targets)
-            (AnyMeans p «module»
+            (AddsMissing (targets_in self.old.targets)
+            (AnyMeans p which
             (map (use_entry_of tables.now.reads.items) tables.now.uses.items))
             (targets_in self.new.targets)) }
         ensures meanings { (p : Program) →
             IsIndexOf p index.old →
-            AreModulesOf p kinds.now →
-            IsTableOf p «module» tables.now →
+            AreModulesKnown p kinds.now →
+            IsTableOf p which tables.now →
             Finds locals.now (map import_entry_of tables.now.imports.items) →
-            «module» < length self.old.meanings.items →
+            which < length self.old.meanings.items →
             OnOk result
-            (Fills (AreMeaningsOf p) (λ n. n ≡ «module») self.old.meanings.items
+            (HoldsOfLists (AreMeaningsOf p) (λ n. n ≡ which) self.old.meanings.items
             self.new.meanings.items) }
         ensures linked { OnOk result (self.new.linked ≡ self.old.linked) }
         ensures same { OnOk result (index.new ≡ index.old) }
@@ -252,11 +252,11 @@ impl<'a> Meant<'a> {
         for its in &tables.uses {
             let import = locals.get(&its.local).copied();
             let reads = reads_of(&tables.reads, *its);
-            let meaning = used(alloc, kinds, index, module, reads, import)?;
+            let meaning = used(alloc, kinds, index, which, reads, import)?;
             add_meant(&mut self.targets, meaning)?;
             meanings.push(meaning)?;
         }
-        put_at(&mut self.meanings, module, meanings);
+        put_at(&mut self.meanings, which, meanings);
         Ok(())
     }
 
@@ -267,14 +267,14 @@ impl<'a> Meant<'a> {
         kinds: &Kinds<'_, '_, 'a>,
         index: &mut Index<'a>,
     ) -> Result<(), AllocError>
-        ensures right { (p : Program) → IsIndexOf p index.old → AreModulesOf p kinds.now →
+        ensures right { (p : Program) → IsIndexOf p index.old → AreModulesKnown p kinds.now →
             OnOk result (Closes p (targets_in self.old.targets) (targets_in self.new.targets)) }
         ensures linked { (p : Program) →
             IsIndexOf p index.old →
-            AreModulesOf p kinds.now →
+            AreModulesKnown p kinds.now →
             length self.old.linked.items ≡ length kinds.now.modules.now →
             OnOk result
-            (Fills (AreLinkedIn p) (λ d. IsIn (targets_in self.new.targets) (Namespace d))
+            (HoldsOfLists (AreLinkedIn p) (λ d. IsIn (targets_in self.new.targets) (Namespace d))
             self.old.linked.items self.new.linked.items) }
         ensures meanings { OnOk result (self.new.meanings ≡ self.old.meanings) }
         ensures same { OnOk result (index.new ≡ index.old) }
@@ -294,32 +294,32 @@ impl<'a> Meant<'a> {
         alloc: Global,
         kinds: &Kinds<'_, '_, 'a>,
         index: &mut Index<'a>,
-        target: Target<'a>,
+        target: TargetRef<'a>,
     ) -> Result<(), AllocError>
         ensures right { (p : Program) →
             IsIndexOf p index.old →
-            AreModulesOf p kinds.now →
+            AreModulesKnown p kinds.now →
             OnOk result
-            (Adds (targets_in self.old.targets) (IsNameOf p (target_of target.entry))
+            (AddsMissing (targets_in self.old.targets) (IsNameOf p (target_of target.entry))
             (targets_in self.new.targets)) }
         ensures linked { (p : Program) →
             IsIndexOf p index.old →
-            AreModulesOf p kinds.now →
+            AreModulesKnown p kinds.now →
             length self.old.linked.items ≡ length kinds.now.modules.now →
             OnOk result
-            (Fills (AreLinkedIn p) (λ d. target_of target.entry ≡ Namespace d)
+            (HoldsOfLists (AreLinkedIn p) (λ d. target_of target.entry ≡ Namespace d)
             self.old.linked.items self.new.linked.items) }
         ensures meanings { OnOk result (self.new.meanings ≡ self.old.meanings) }
         ensures same { OnOk result (index.new ≡ index.old) }
     {
         match target {
-            Target::Namespace { module } => {
-                self.link(alloc, kinds, index, module)?;
+            TargetRef::Namespace { which } => {
+                self.link(alloc, kinds, index, which)?;
                 Ok(())
             }
-            Target::Declared { .. } => Ok(()),
-            Target::External { .. } => Ok(()),
-            Target::CommonJs { .. } => Ok(()),
+            TargetRef::Declared { .. } => Ok(()),
+            TargetRef::External { .. } => Ok(()),
+            TargetRef::CommonJs { .. } => Ok(()),
         }
     }
 
@@ -329,33 +329,33 @@ impl<'a> Meant<'a> {
         alloc: Global,
         kinds: &Kinds<'_, '_, 'a>,
         index: &mut Index<'a>,
-        module: usize,
+        which: usize,
     ) -> Result<(), AllocError>
         ensures right { (p : Program) →
             IsIndexOf p index.old →
-            AreModulesOf p kinds.now →
+            AreModulesKnown p kinds.now →
             OnOk result
-            (Adds (targets_in self.old.targets) (LinksTo p «module»)
+            (AddsMissing (targets_in self.old.targets) (LinksTo p which)
             (targets_in self.new.targets)) }
         ensures linked { (p : Program) →
             IsIndexOf p index.old →
-            AreModulesOf p kinds.now →
+            AreModulesKnown p kinds.now →
             length self.old.linked.items ≡ length kinds.now.modules.now →
             OnOk result
-            (Fills (AreLinkedIn p) (λ d. d ≡ «module») self.old.linked.items
+            (HoldsOfLists (AreLinkedIn p) (λ d. d ≡ which) self.old.linked.items
             self.new.linked.items) }
         ensures meanings { OnOk result (self.new.meanings ≡ self.old.meanings) }
         ensures same { OnOk result (index.new ≡ index.old) }
     {
-        let linked = linked_names(alloc, kinds, index, module)?;
+        let linked = linked_names(alloc, kinds, index, which)?;
         add_targets(&mut self.targets, &linked)?;
-        put_at(&mut self.linked, module, linked);
+        put_at(&mut self.linked, which, linked);
         Ok(())
     }
 }
 
 // The target at a place of those met.
-fn target_at<'a>(targets: &TextSet<Target<'a>>, place: usize) -> Target<'a>
+fn target_at<'a>(targets: &TextSet<TargetRef<'a>>, place: usize) -> TargetRef<'a>
     requires { place < length targets.now.keys }
     ensures { slice_get targets.now.keys place ≡ Some result }
 {
@@ -364,11 +364,11 @@ fn target_at<'a>(targets: &TextSet<Target<'a>>, place: usize) -> Target<'a>
 
 // Adds the target that is meant, if one is.
 fn add_meant<'a>(
-    targets: &mut TextSet<Target<'a>>,
+    targets: &mut TextSet<TargetRef<'a>>,
     meaning: Option<Meaning<'a>>,
 ) -> Result<(), AllocError>
     ensures { OnOk result
-        (Adds (targets_in targets.old) (MeansSome meaning.entry) (targets_in targets.new)) }
+        (AddsMissing (targets_in targets.old) (MeansSome meaning.entry) (targets_in targets.new)) }
 {
     match meaning {
         Some(meaning) => add_target(targets, meaning.target),
@@ -377,9 +377,12 @@ fn add_meant<'a>(
 }
 
 // Adds a target.
-fn add_target<'a>(targets: &mut TextSet<Target<'a>>, target: Target<'a>) -> Result<(), AllocError>
+fn add_target<'a>(
+    targets: &mut TextSet<TargetRef<'a>>,
+    target: TargetRef<'a>,
+) -> Result<(), AllocError>
     ensures { OnOk result
-        (Adds (targets_in targets.old) (λ other. other ≡ target_of target.entry)
+        (AddsMissing (targets_in targets.old) (λ other. other ≡ target_of target.entry)
         (targets_in targets.new)) }
 {
     targets.insert(target)?;
@@ -388,11 +391,11 @@ fn add_target<'a>(targets: &mut TextSet<Target<'a>>, target: Target<'a>) -> Resu
 
 // Adds the targets of names.
 fn add_targets<'a>(
-    targets: &mut TextSet<Target<'a>>,
-    linked: &[(&'a str, Target<'a>)],
+    targets: &mut TextSet<TargetRef<'a>>,
+    linked: &[(&'a str, TargetRef<'a>)],
 ) -> Result<(), AllocError>
     ensures { OnOk result
-        (Adds (targets_in targets.old) (Contains (map target_in linked.now))
+        (AddsMissing (targets_in targets.old) (Contains (map target_in linked.now))
         (targets_in targets.new)) }
 {
     for pair in linked {
@@ -402,7 +405,7 @@ fn add_targets<'a>(
 }
 
 // The reads around a use.
-fn reads_of<'t, 'a>(reads: &'t [Read<'a>], its: Use<'a>) -> &'t [Read<'a>]
+fn reads_of<'t, 'a>(reads: &'t [MemberRead<'a>], its: Use<'a>) -> &'t [MemberRead<'a>]
     ensures { result.now ≡ reads_by reads.now its.entry }
 {
     let rest = if its.first_read < reads.len() {
@@ -422,24 +425,24 @@ fn used<'a>(
     alloc: Global,
     kinds: &Kinds<'_, '_, 'a>,
     index: &mut Index<'a>,
-    module: usize,
-    reads: &[Read<'a>],
-    import: Option<Import<'a>>,
+    which: usize,
+    reads: &[MemberRead<'a>],
+    import: Option<ImportRef<'a>>,
 ) -> Result<Option<Meaning<'a>>, AllocError>
     ensures right { IfOk result (λ found.
         (p : Program) →
         IsIndexOf p index.old →
-        AreModulesOf p kinds.now →
+        AreModulesKnown p kinds.now →
         (x : Text) (entry : ImportEntry) →
         option_map import_entry_of import.entry ≡ Some entry →
-        import_of (imports_in p «module») x ≡ Some entry →
-        IsMeaning p «module» x (map name_read reads.now) found) }
+        import_of (imports_in p which) x ≡ Some entry →
+        IsMeaning p which x (map name_read reads.now) found) }
     ensures same { OnOk result (index.new ≡ index.old) }
 {
     let Some(import) = import else {
         return Ok(None);
     };
-    match named(alloc, kinds, index, module, import)? {
+    match named(alloc, kinds, index, which, import)? {
         Some(target) => {
             let meaning = read(alloc, index, reads, target)?;
             Ok(Some(meaning))
@@ -453,24 +456,24 @@ fn named<'a>(
     alloc: Global,
     kinds: &Kinds<'_, '_, 'a>,
     index: &mut Index<'a>,
-    module: usize,
-    import: Import<'a>,
-) -> Result<Option<Target<'a>>, AllocError>
+    which: usize,
+    import: ImportRef<'a>,
+) -> Result<Option<TargetRef<'a>>, AllocError>
     ensures right { IfOk result (λ found.
         (p : Program) →
         IsIndexOf p index.old →
-        AreModulesOf p kinds.now →
-        Contains (imports_in p «module») (import_entry_of import.entry) →
-        IsImported p «module» (import_entry_of import.entry) (option_map target_of found)) }
+        AreModulesKnown p kinds.now →
+        Contains (imports_in p which) (import_entry_of import.entry) →
+        IsImported p which (import_entry_of import.entry) (option_map target_of found)) }
     ensures same { OnOk result (index.new ≡ index.old) }
 {
-    match taking(kinds, module, import.specifier, import.taken, None) {
-        Own::Gives(given) => Ok(Some(given.target)),
-        Own::Leads(asked) => {
+    match taking(kinds, which, import.specifier, import.taken, None) {
+        OwnTarget::Gives(given) => Ok(Some(given.target)),
+        OwnTarget::Leads(asked) => {
             let answer = index.answer(alloc, asked)?;
             Ok(answer.linked())
         }
-        Own::Nothing => Ok(None),
+        OwnTarget::Nothing => Ok(None),
     }
 }
 
@@ -479,8 +482,8 @@ fn named<'a>(
 fn read<'a>(
     alloc: Global,
     index: &mut Index<'a>,
-    reads: &[Read<'a>],
-    target: Target<'a>,
+    reads: &[MemberRead<'a>],
+    target: TargetRef<'a>,
 ) -> Result<Meaning<'a>, AllocError>
     ensures right { IfOk result (λ meaning.
         (p : Program) →
@@ -506,20 +509,20 @@ fn read<'a>(
 fn read_on<'a>(
     alloc: Global,
     index: &mut Index<'a>,
-    target: Target<'a>,
+    target: TargetRef<'a>,
     name: &'a str,
-) -> Result<Option<Target<'a>>, AllocError>
+) -> Result<Option<TargetRef<'a>>, AllocError>
     ensures right { IfOk result (λ next. (p : Program) → IsIndexOf p index.old →
-        IsNext p (target_of target.entry) name.now (option_map target_of next)) }
+        IsReadTarget p (target_of target.entry) name.now (option_map target_of next)) }
     ensures same { OnOk result (index.new ≡ index.old) }
 {
     match target {
-        Target::Namespace { module } => {
-            let answer = index.answer(alloc, Asked { module, name })?;
+        TargetRef::Namespace { which } => {
+            let answer = index.answer(alloc, Asked { which, name })?;
             Ok(answer.linked())
         }
-        Target::Declared { .. } => Ok(None),
-        Target::External { .. } => Ok(None),
-        Target::CommonJs { .. } => Ok(None),
+        TargetRef::Declared { .. } => Ok(None),
+        TargetRef::External { .. } => Ok(None),
+        TargetRef::CommonJs { .. } => Ok(None),
     }
 }

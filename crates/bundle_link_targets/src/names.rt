@@ -5,12 +5,12 @@ ghost use Rattle.bundle_rules.specs.Bundle.{IsAscending};
 ghost use Rattle.bundle_rules.specs.Nodes.{Text};
 ghost use Rattle.bundle_rules.specs.Program.{Program};
 ghost use Rattle.bundle_link_index.specs.Outside.{IsIndexOf};
-ghost use Rattle.bundle_link_index.specs.Programs.{AreModulesOf};
+ghost use Rattle.bundle_link_index.specs.Programs.{AreModulesKnown};
 ghost use Rattle.bundle_link_index.specs.Says.{target_of};
-ghost use Rattle.bundle_link_targets.specs.Names.{AreLinkedOf, Gains, HasNamesOf, IsLinkedTo, IsNameIn, IsNamedBy, LinksAmong, Notes, pair_of, texts_in};
+ghost use Rattle.bundle_link_targets.specs.Names.{AreLinkedOf, GainsNames, HasNamesOf, IsLinkedTo, IsNameIn, IsNamedBy, LinksAmong, NotesTarget, target_pair, texts_in};
 
 use bundle_link_index::index::DEFAULT;
-use bundle_link_index::{Asked, Index, Kinds, Target};
+use bundle_link_index::{Asked, Index, Kinds, TargetRef};
 use bundle_link_tables::Export;
 use bundle_scope_denote::texts::TextSet;
 use std::alloc::{AllocError, Global};
@@ -20,19 +20,19 @@ pub fn linked_names<'a>(
     alloc: Global,
     kinds: &Kinds<'_, '_, 'a>,
     index: &mut Index<'a>,
-    module: usize,
-) -> Result<Vec<(&'a str, Target<'a>)>, AllocError>
+    which: usize,
+) -> Result<Vec<(&'a str, TargetRef<'a>)>, AllocError>
     ensures right { IfOk result (λ pairs.
         (p : Program) →
         IsIndexOf p index.old →
-        AreModulesOf p kinds.now →
-        AreLinkedOf p «module» (map pair_of pairs.items)) }
+        AreModulesKnown p kinds.now →
+        AreLinkedOf p which (map target_pair pairs.items)) }
     ensures ascending { IfOk result (λ pairs.
-        IsAscending (map (λ pair. pair.0) (map pair_of pairs.items))) }
+        IsAscending (map (λ pair. pair.0) (map target_pair pairs.items))) }
     ensures same { OnOk result (index.new ≡ index.old) }
 {
-    let names = names(alloc, kinds, index, module)?;
-    let linked = linked_among(alloc, index, module, &names)?;
+    let names = names(alloc, kinds, index, which)?;
+    let linked = linked_among(alloc, index, which, &names)?;
     Ok(linked)
 }
 
@@ -40,18 +40,18 @@ pub fn linked_names<'a>(
 fn linked_among<'a>(
     alloc: Global,
     index: &mut Index<'a>,
-    module: usize,
+    which: usize,
     names: &[&'a str],
-) -> Result<Vec<(&'a str, Target<'a>)>, AllocError>
+) -> Result<Vec<(&'a str, TargetRef<'a>)>, AllocError>
     ensures right { IfOk result (λ pairs. (p : Program) → IsIndexOf p index.old →
-        LinksAmong p «module» (map (λ name. name.now) names.now) (map pair_of pairs.items)) }
+        LinksAmong p which (map (λ name. name.now) names.now) (map target_pair pairs.items)) }
     ensures ascending { IsAscending (map (λ name. name.now) names.now) →
-        IfOk result (λ pairs. IsAscending (map (λ pair. pair.0) (map pair_of pairs.items))) }
+        IfOk result (λ pairs. IsAscending (map (λ pair. pair.0) (map target_pair pairs.items))) }
     ensures same { OnOk result (index.new ≡ index.old) }
 {
     let mut linked = Vec::new(alloc);
     for name in names {
-        let target = target_of(alloc, index, module, *name)?;
+        let target = target_of(alloc, index, which, *name)?;
         add_linked(&mut linked, *name, target)?;
     }
     Ok(linked)
@@ -61,26 +61,26 @@ fn linked_among<'a>(
 fn target_of<'a>(
     alloc: Global,
     index: &mut Index<'a>,
-    module: usize,
+    which: usize,
     name: &'a str,
-) -> Result<Option<Target<'a>>, AllocError>
+) -> Result<Option<TargetRef<'a>>, AllocError>
     ensures right { IfOk result (λ target. (p : Program) → IsIndexOf p index.old →
-        IsLinkedTo p «module» name.now (option_map target_of target)) }
+        IsLinkedTo p which name.now (option_map target_of target)) }
     ensures same { OnOk result (index.new ≡ index.old) }
 {
-    let answer = index.answer(alloc, Asked { module, name })?;
+    let answer = index.answer(alloc, Asked { which, name })?;
     Ok(answer.linked())
 }
 
 // Notes the target of a name, where there is one.
 fn add_linked<'a>(
-    linked: &mut Vec<(&'a str, Target<'a>)>,
+    linked: &mut Vec<(&'a str, TargetRef<'a>)>,
     name: &'a str,
-    target: Option<Target<'a>>,
+    target: Option<TargetRef<'a>>,
 ) -> Result<(), AllocError>
     ensures { OnOk result
-        (Notes (map pair_of linked.old.items) name.now (option_map target_of target.entry)
-        (map pair_of linked.new.items)) }
+        (NotesTarget (map target_pair linked.old.items) name.now (option_map target_of target.entry)
+        (map target_pair linked.new.items)) }
 {
     match target {
         Some(target) => {
@@ -96,16 +96,16 @@ fn names<'a>(
     alloc: Global,
     kinds: &Kinds<'_, '_, 'a>,
     index: &Index<'a>,
-    module: usize,
+    which: usize,
 ) -> Result<Vec<&'a str>, AllocError>
     ensures there { IfOk result (λ names.
         (p : Program) →
         IsIndexOf p index.now →
-        AreModulesOf p kinds.now →
-        HasNamesOf p «module» (map (λ name. name.now) names.items)) }
+        AreModulesKnown p kinds.now →
+        HasNamesOf p which (map (λ name. name.now) names.items)) }
     ensures ascending { IfOk result (λ names. IsAscending (map (λ name. name.now) names.items)) }
 {
-    let names = entry_names(alloc, kinds, index, module)?;
+    let names = entry_names(alloc, kinds, index, which)?;
     let sorted = sorted(alloc, &names)?;
     Ok(sorted)
 }
@@ -131,19 +131,19 @@ fn entry_names<'a>(
     alloc: Global,
     kinds: &Kinds<'_, '_, 'a>,
     index: &Index<'a>,
-    module: usize,
+    which: usize,
 ) -> Result<TextSet<&'a str>, AllocError>
     ensures { IfOk result (λ names.
         (p : Program) →
         IsIndexOf p index.now →
-        AreModulesOf p kinds.now →
-        HasNamesOf p «module» (texts_in names)) }
+        AreModulesKnown p kinds.now →
+        HasNamesOf p which (texts_in names)) }
 {
     let mut names = TextSet::new(alloc);
-    let reach = index.reach(alloc, module)?;
+    let reach = index.reach(alloc, which)?;
     let others = reach.as_slice();
     for other in others {
-        add_names_of(kinds, *other, *other == module, &mut names)?;
+        add_names_of(kinds, *other, *other == which, &mut names)?;
     }
     Ok(names)
 }
@@ -151,14 +151,14 @@ fn entry_names<'a>(
 // Adds the names of the entries of a module, but for `default` of another.
 fn add_names_of<'a>(
     kinds: &Kinds<'_, '_, 'a>,
-    module: usize,
+    which: usize,
     is_own: bool,
     names: &mut TextSet<&'a str>,
 ) -> Result<(), AllocError>
     ensures { OnOk result
-        (Gains (texts_in names.old) (IsNameIn kinds.now «module» is_own) (texts_in names.new)) }
+        (GainsNames (texts_in names.old) (IsNameIn kinds.now which is_own) (texts_in names.new)) }
 {
-    match kinds.tables(module) {
+    match kinds.tables(which) {
         Some(tables) => add_names(&tables.exports, is_own, names),
         None => Ok(()),
     }
@@ -171,7 +171,7 @@ fn add_names<'a>(
     names: &mut TextSet<&'a str>,
 ) -> Result<(), AllocError>
     ensures { OnOk result
-        (Gains (texts_in names.old) (IsNamedBy exports.now is_own) (texts_in names.new)) }
+        (GainsNames (texts_in names.old) (IsNamedBy exports.now is_own) (texts_in names.new)) }
 {
     for export in exports {
         add_name(*export, is_own, names)?;
@@ -186,7 +186,7 @@ fn add_name<'a>(
     names: &mut TextSet<&'a str>,
 ) -> Result<(), AllocError>
     ensures { OnOk result
-        (Gains (texts_in names.old) (IsNamedBy (export.entry ∷ []) is_own) (texts_in names.new)) }
+        (GainsNames (texts_in names.old) (IsNamedBy (export.entry ∷ []) is_own) (texts_in names.new)) }
 {
     if is_own || export.name != DEFAULT {
         names.insert(export.name)?;

@@ -8,9 +8,9 @@ ghost use Rattle.bundle_link_index.specs.Says.{target_of};
 ghost use Rattle.bundle_link_targets.specs.Symbols as the_symbols;
 ghost use Rattle.bundle_link_targets.specs.Symbols.{Called, Calls, exported_by, exports_called, imported_by, imports_called, named_as, named_in, taken_in};
 
-use crate::target::Target;
+use crate::target::TargetRef;
 use bundle_link_index::{Kinds, Lead};
-use bundle_link_tables::{Export, Import, Origin, Taken};
+use bundle_link_tables::{Export, ImportRef, Origin, Taken};
 use bundle_scope_denote::texts::TextMap;
 use bundle_tree_places::is_ascii_identifier;
 use std::alloc::{AllocError, Global};
@@ -20,7 +20,7 @@ use std::alloc::{AllocError, Global};
 pub fn symbols_of<'a>(
     alloc: Global,
     kinds: &Kinds<'_, '_, 'a>,
-) -> Result<TextMap<Target<'a>, &'a str>, AllocError>
+) -> Result<TextMap<TargetRef<'a>, &'a str>, AllocError>
     ensures { IfOk result (λ symbols. Calls symbols (named_in kinds.now)) }
 {
     let mut symbols = TextMap::new(alloc);
@@ -32,15 +32,15 @@ pub fn symbols_of<'a>(
 // Notes what the imports of listed modules call targets.
 fn add_all_imports<'a>(
     kinds: &Kinds<'_, '_, 'a>,
-    symbols: &mut TextMap<Target<'a>, &'a str>,
+    symbols: &mut TextMap<TargetRef<'a>, &'a str>,
 ) -> Result<(), AllocError>
     ensures { (before : List Called) →
         Calls symbols.old before →
         OnOk result
         (Calls symbols.new (before ++ flat_map (imports_called kinds.now) kinds.now.list.now)) }
 {
-    for module in kinds.list {
-        add_imports_of(kinds, *module, symbols)?;
+    for which in kinds.list {
+        add_imports_of(kinds, *which, symbols)?;
     }
     Ok(())
 }
@@ -48,15 +48,15 @@ fn add_all_imports<'a>(
 // Notes what the exports of wholes of listed modules call them.
 fn add_all_exports<'a>(
     kinds: &Kinds<'_, '_, 'a>,
-    symbols: &mut TextMap<Target<'a>, &'a str>,
+    symbols: &mut TextMap<TargetRef<'a>, &'a str>,
 ) -> Result<(), AllocError>
     ensures { (before : List Called) →
         Calls symbols.old before →
         OnOk result
         (Calls symbols.new (before ++ flat_map (exports_called kinds.now) kinds.now.list.now)) }
 {
-    for module in kinds.list {
-        add_exports_of(kinds, *module, symbols)?;
+    for which in kinds.list {
+        add_exports_of(kinds, *which, symbols)?;
     }
     Ok(())
 }
@@ -64,14 +64,14 @@ fn add_all_exports<'a>(
 // Notes what the imports of a module call targets, if it is there.
 fn add_imports_of<'a>(
     kinds: &Kinds<'_, '_, 'a>,
-    module: usize,
-    symbols: &mut TextMap<Target<'a>, &'a str>,
+    which: usize,
+    symbols: &mut TextMap<TargetRef<'a>, &'a str>,
 ) -> Result<(), AllocError>
     ensures { (before : List Called) → Calls symbols.old before →
-        OnOk result (Calls symbols.new (before ++ imports_called kinds.now «module»)) }
+        OnOk result (Calls symbols.new (before ++ imports_called kinds.now which)) }
 {
-    match kinds.tables(module) {
-        Some(tables) => add_imports(kinds, module, &tables.imports, symbols),
+    match kinds.tables(which) {
+        Some(tables) => add_imports(kinds, which, &tables.imports, symbols),
         None => Ok(()),
     }
 }
@@ -79,14 +79,14 @@ fn add_imports_of<'a>(
 // Notes what the exports of wholes of a module call them, if it is there.
 fn add_exports_of<'a>(
     kinds: &Kinds<'_, '_, 'a>,
-    module: usize,
-    symbols: &mut TextMap<Target<'a>, &'a str>,
+    which: usize,
+    symbols: &mut TextMap<TargetRef<'a>, &'a str>,
 ) -> Result<(), AllocError>
     ensures { (before : List Called) → Calls symbols.old before →
-        OnOk result (Calls symbols.new (before ++ exports_called kinds.now «module»)) }
+        OnOk result (Calls symbols.new (before ++ exports_called kinds.now which)) }
 {
-    match kinds.tables(module) {
-        Some(tables) => add_exports(kinds, module, &tables.exports, symbols),
+    match kinds.tables(which) {
+        Some(tables) => add_exports(kinds, which, &tables.exports, symbols),
         None => Ok(()),
     }
 }
@@ -94,17 +94,17 @@ fn add_exports_of<'a>(
 // Notes what imports call targets.
 fn add_imports<'a>(
     kinds: &Kinds<'_, '_, 'a>,
-    module: usize,
-    imports: &[Import<'a>],
-    symbols: &mut TextMap<Target<'a>, &'a str>,
+    which: usize,
+    imports: &[ImportRef<'a>],
+    symbols: &mut TextMap<TargetRef<'a>, &'a str>,
 ) -> Result<(), AllocError>
     ensures { (before : List Called) →
         Calls symbols.old before →
         OnOk result
-        (Calls symbols.new (before ++ filter_map (imported_by kinds.now «module») imports.now)) }
+        (Calls symbols.new (before ++ filter_map (imported_by kinds.now which) imports.now)) }
 {
     for import in imports {
-        let target = target_taken(&*kinds, module, import.specifier, import.taken);
+        let target = target_taken(&*kinds, which, import.specifier, import.taken);
         add_symbol(symbols, target, import.local)?;
     }
     Ok(())
@@ -113,29 +113,33 @@ fn add_imports<'a>(
 // Notes what exports of wholes call them.
 fn add_exports<'a>(
     kinds: &Kinds<'_, '_, 'a>,
-    module: usize,
+    which: usize,
     exports: &[Export<'a>],
-    symbols: &mut TextMap<Target<'a>, &'a str>,
+    symbols: &mut TextMap<TargetRef<'a>, &'a str>,
 ) -> Result<(), AllocError>
     ensures { (before : List Called) →
         Calls symbols.old before →
         OnOk result
-        (Calls symbols.new (before ++ filter_map (exported_by kinds.now «module») exports.now)) }
+        (Calls symbols.new (before ++ filter_map (exported_by kinds.now which) exports.now)) }
 {
     for export in exports {
-        let target = whole_of(&*kinds, module, *export);
+        let target = whole_of(&*kinds, which, *export);
         add_symbol(symbols, target, identifier_of(export.name))?;
     }
     Ok(())
 }
 
 // The whole that an export is of.
-fn whole_of<'a>(kinds: &Kinds<'_, '_, 'a>, module: usize, export: Export<'a>) -> Option<Target<'a>>
-    ensures { option_map target_of result ≡ taken_in kinds.now «module» export.entry.origin }
+fn whole_of<'a>(
+    kinds: &Kinds<'_, '_, 'a>,
+    which: usize,
+    export: Export<'a>,
+) -> Option<TargetRef<'a>>
+    ensures { option_map target_of result ≡ taken_in kinds.now which export.entry.origin }
 {
     match export.origin {
         Origin::Indirect { specifier, taken } => match taken {
-            Taken::Whole => target_taken(kinds, module, specifier, Taken::Whole),
+            Taken::Whole => target_taken(kinds, which, specifier, Taken::Whole),
             Taken::Named(_) => None,
         },
         Origin::Local { .. } => None,
@@ -148,15 +152,15 @@ fn target_taken<'a>(
     taker: usize,
     specifier: &'a str,
     taken: Taken<'a>,
-) -> Option<Target<'a>>
+) -> Option<TargetRef<'a>>
     ensures { option_map target_of result
         ≡ named_as kinds.now taker specifier.now (taken_of taken.entry) }
 {
     match kinds.lead(taker, specifier) {
-        Lead::External => Some(Target::External { specifier, taken }),
-        Lead::CommonJs(module) => Some(Target::CommonJs {
+        Lead::External => Some(TargetRef::External { specifier, taken }),
+        Lead::CommonJs(which) => Some(TargetRef::CommonJs {
             taker,
-            module,
+            which,
             taken,
         }),
         Lead::Module(_) => None,
@@ -166,8 +170,8 @@ fn target_taken<'a>(
 
 // Notes what a target is called, if there is one and it was not noted.
 fn add_symbol<'a>(
-    symbols: &mut TextMap<Target<'a>, &'a str>,
-    target: Option<Target<'a>>,
+    symbols: &mut TextMap<TargetRef<'a>, &'a str>,
+    target: Option<TargetRef<'a>>,
     symbol: &'a str,
 ) -> Result<(), AllocError>
     ensures { (before : List Called) →
@@ -184,8 +188,8 @@ fn add_symbol<'a>(
 
 // Notes what a target is called, if it was not noted.
 fn note_symbol<'a>(
-    symbols: &mut TextMap<Target<'a>, &'a str>,
-    target: Target<'a>,
+    symbols: &mut TextMap<TargetRef<'a>, &'a str>,
+    target: TargetRef<'a>,
     symbol: &'a str,
 ) -> Result<(), AllocError>
     ensures { (before : List Called) → Calls symbols.old before →

@@ -9,22 +9,22 @@ ghost use Rattle.bundle_rules.specs.Linking.{HasExternalStar};
 ghost use Rattle.bundle_rules.specs.Program.{Program};
 ghost use Rattle.bundle_link_tables.specs.Sources.{HasTexts};
 ghost use Rattle.bundle_link_tables.specs.TablesOf.{taken_of};
-ghost use Rattle.bundle_link_search.specs.Given.{IsIn};
+ghost use Rattle.bundle_link_index.specs.Given.{IsIn};
 ghost use Rattle.bundle_link_index.specs.Handed.{external_one};
 ghost use Rattle.bundle_link_index.specs.Leads.{lead_of, lead_told};
 ghost use Rattle.bundle_link_index.specs.Outside.{IsIndexOf};
-ghost use Rattle.bundle_link_index.specs.Programs.{AreModulesOf};
+ghost use Rattle.bundle_link_index.specs.Programs.{AreModulesKnown};
 ghost use Rattle.bundle_link_index.specs.Says.{target_of};
 ghost use Rattle.bundle_link_targets.specs.Found.{targets_in};
 ghost use Rattle.bundle_link_targets.specs.Lists.{list_in};
 ghost use Rattle.bundle_link_targets.specs.Names.{texts_in};
-ghost use Rattle.bundle_link_targets.specs.Taken.{AreAllNames, AreLoadsOf, HoldNames, IsExternal, IsLoad, IsNameFrom, Picks, given_to, load_by, loads_in, names_for, outside_in, outside_of, specifier_of, starred_as, starred_in, starred_one, taken_from};
+ghost use Rattle.bundle_link_targets.specs.Taken.{AreAllNames, AreLoadsOf, HoldNames, IsExternal, IsLoad, IsNameFrom, PicksThose, given_to_giver, module_loaded_by, loads_in, names_for, outside_in, outside_of, specifier_of, starred_as, starred_in, starred_one, target_from_giver};
 ghost use Rattle.bundle_link_targets.specs.declared.taken.Giver.{Giver as GiverType};
 ghost use Rattle.bundle_rules.specs.Linking.{Target as TargetTerm};
 ghost use Rattle.std.specs.Borrow.{Bor};
 
 use crate::lists::{items_of, no_lists, put_at};
-use crate::target::{External, Loaded, Target};
+use crate::target::{External, Loaded, TargetRef};
 use bundle_link_index::{Index, Kinds, Lead};
 use bundle_link_tables::{Source, Taken};
 use bundle_scope_denote::texts::{TextMap, TextSet};
@@ -35,7 +35,7 @@ use std::alloc::{AllocError, Global};
 pub fn externals_of<'a>(
     alloc: Global,
     kinds: &Kinds<'_, '_, 'a>,
-    meant: &TextSet<Target<'a>>,
+    meant: &TextSet<TargetRef<'a>>,
 ) -> Result<Vec<External<'a>>, AllocError>
     ensures specifiers { IfOk result (λ found.
         map specifier_of found.items
@@ -61,8 +61,8 @@ fn specifiers_of<'a>(
         texts_in set ≡ each_once (outside_of kinds.now.modules.now kinds.now.list.now)) }
 {
     let mut specifiers = TextSet::new(alloc);
-    for module in kinds.list {
-        add_specifiers_of(kinds, *module, &mut specifiers)?;
+    for which in kinds.list {
+        add_specifiers_of(kinds, *which, &mut specifiers)?;
     }
     Ok(specifiers)
 }
@@ -70,16 +70,16 @@ fn specifiers_of<'a>(
 // Adds those that a module asks for, if it is there.
 fn add_specifiers_of<'a>(
     kinds: &Kinds<'_, '_, 'a>,
-    module: usize,
+    which: usize,
     specifiers: &mut TextSet<&'a str>,
 ) -> Result<(), AllocError>
     ensures { (before : List Text) →
         texts_in specifiers.old ≡ each_once before →
         OnOk result
         (texts_in specifiers.new
-        ≡ each_once (before ++ outside_in (slice_get kinds.now.modules.now «module»))) }
+        ≡ each_once (before ++ outside_in (slice_get kinds.now.modules.now which))) }
 {
-    match kinds.tables(module) {
+    match kinds.tables(which) {
         Some(tables) => add_specifiers(&tables.sources, specifiers),
         None => Ok(()),
     }
@@ -120,7 +120,7 @@ fn add_specifier<'a>(
 fn external_of<'a>(
     alloc: Global,
     specifier: &'a str,
-    meant: &TextSet<Target<'a>>,
+    meant: &TextSet<TargetRef<'a>>,
     names: &TextMap<Giver<'a>, Vec<&'a str>>,
 ) -> Result<External<'a>, AllocError>
     ensures specifier { IfOk result (λ external. specifier_of external ≡ specifier.now) }
@@ -141,18 +141,18 @@ fn external_of<'a>(
 #[derive(Clone, Copy, PartialEq, Eq, Hash, PartialOrd, Ord)]
 pub enum Giver<'a> {
     External { specifier: &'a str },
-    CommonJs { taker: usize, module: usize },
+    CommonJs { taker: usize, which: usize },
 }
 
 // The target that this of it is.
-fn target_from<'a>(giver: Giver<'a>, taken: Taken<'a>) -> Target<'a>
-    ensures { target_of result ≡ taken_from giver.entry (taken_of taken.entry) }
+fn target_from<'a>(giver: Giver<'a>, taken: Taken<'a>) -> TargetRef<'a>
+    ensures { target_of result ≡ target_from_giver giver.entry (taken_of taken.entry) }
 {
     match giver {
-        Giver::External { specifier } => Target::External { specifier, taken },
-        Giver::CommonJs { taker, module } => Target::CommonJs {
+        Giver::External { specifier } => TargetRef::External { specifier, taken },
+        Giver::CommonJs { taker, which } => TargetRef::CommonJs {
             taker,
-            module,
+            which,
             taken,
         },
     }
@@ -161,7 +161,7 @@ fn target_from<'a>(giver: Giver<'a>, taken: Taken<'a>) -> Target<'a>
 // The names that are meant, by what gives them.
 fn names_by<'a>(
     alloc: Global,
-    meant: &TextSet<Target<'a>>,
+    meant: &TextSet<TargetRef<'a>>,
 ) -> Result<TextMap<Giver<'a>, Vec<&'a str>>, AllocError>
     ensures { IfOk result (λ names. AreAllNames (targets_in meant.now) names) }
 {
@@ -177,23 +177,23 @@ fn names_by<'a>(
 fn add_target<'a>(
     alloc: Global,
     names: &mut TextMap<Giver<'a>, Vec<&'a str>>,
-    target: Target<'a>,
+    target: TargetRef<'a>,
 ) -> Result<(), AllocError>
     ensures { OnOk result ((g : GiverType) → (found : Option (Bor Text))
         × IsNameFrom g (target_of target.entry) found
         × (names_for names.new g ≡ names_for names.old g ++ cons_option found [])) }
 {
     match target {
-        Target::External { specifier, taken } => {
+        TargetRef::External { specifier, taken } => {
             add_taken(alloc, names, Giver::External { specifier }, taken)
         }
-        Target::CommonJs {
+        TargetRef::CommonJs {
             taker,
-            module,
+            which,
             taken,
-        } => add_taken(alloc, names, Giver::CommonJs { taker, module }, taken),
-        Target::Declared { .. } => Ok(()),
-        Target::Namespace { .. } => Ok(()),
+        } => add_taken(alloc, names, Giver::CommonJs { taker, which }, taken),
+        TargetRef::Declared { .. } => Ok(()),
+        TargetRef::Namespace { .. } => Ok(()),
     }
 }
 // Adds a name that is taken; the whole is none.
@@ -204,7 +204,7 @@ fn add_taken<'a>(
     taken: Taken<'a>,
 ) -> Result<(), AllocError>
     ensures { OnOk result ((g : GiverType) → (found : Option (Bor Text))
-        × IsNameFrom g (taken_from giver.entry (taken_of taken.entry)) found
+        × IsNameFrom g (target_from_giver giver.entry (taken_of taken.entry)) found
         × (names_for names.new g ≡ names_for names.old g ++ cons_option found [])) }
 {
     match taken {
@@ -222,7 +222,7 @@ fn add_name<'a>(
 ) -> Result<(), AllocError>
     ensures { OnOk result
         ((g : GiverType) →
-        names_for names.new g ≡ names_for names.old g ++ given_to giver.entry g name.entry) }
+        names_for names.new g ≡ names_for names.old g ++ given_to_giver giver.entry g name.entry) }
 {
     names.push(alloc, giver, name)
 }
@@ -236,7 +236,7 @@ fn names_from<'a>(
     ensures { (targets : List TargetTerm) →
         HoldNames giver.entry targets (names_for names.now giver.entry) →
         IfOk result (λ sorted.
-        AreNames (λ x. IsIn targets (taken_from giver.entry (Named x)))
+        AreNames (λ x. IsIn targets (target_from_giver giver.entry (Named x)))
         (map (λ name. name.now) sorted.items)) }
 {
     let mut sorted = Vec::new(alloc);
@@ -253,7 +253,7 @@ fn names_from<'a>(
 pub fn loads_of<'a>(
     alloc: Global,
     kinds: &Kinds<'_, '_, 'a>,
-    meant: &TextSet<Target<'a>>,
+    meant: &TextSet<TargetRef<'a>>,
 ) -> Result<Vec<Vec<Loaded<'a>>>, AllocError>
     ensures { IfOk result (λ lists. (m : ℕ) → Contains kinds.now.list.now m →
         AreLoadsOf kinds.now (targets_in meant.now) m (list_in lists.items m)) }
@@ -272,7 +272,7 @@ fn loads_by<'a>(
     alloc: Global,
     kinds: &Kinds<'_, '_, 'a>,
     taker: usize,
-    meant: &TextSet<Target<'a>>,
+    meant: &TextSet<TargetRef<'a>>,
     names: &TextMap<Giver<'a>, Vec<&'a str>>,
 ) -> Result<Vec<Loaded<'a>>, AllocError>
     ensures { AreAllNames (targets_in meant.now) names.now →
@@ -281,8 +281,8 @@ fn loads_by<'a>(
     let modules = loaded_by(alloc, kinds, taker)?;
     let mut loads = Vec::new(alloc);
     let all = modules.as_slice();
-    for module in all {
-        loads.push(loaded_of(alloc, taker, *module, meant, names)?)?;
+    for which in all {
+        loads.push(loaded_of(alloc, taker, *which, meant, names)?)?;
     }
     Ok(loads)
 }
@@ -310,7 +310,7 @@ fn add_loads<'a>(
         modules.old.keys ≡ numbers_once before →
         OnOk result
         (modules.new.keys
-        ≡ numbers_once (before ++ filter_map (load_by kinds.now taker) sources.now)) }
+        ≡ numbers_once (before ++ filter_map (module_loaded_by kinds.now taker) sources.now)) }
 {
     for source in sources {
         add_number(load_of(&*kinds, taker, *source), modules)?;
@@ -320,7 +320,7 @@ fn add_loads<'a>(
 
 // The CommonJS module to which a source leads.
 fn load_of<'a>(kinds: &Kinds<'_, '_, 'a>, taker: usize, source: Source<'a>) -> Option<usize>
-    ensures { result ≡ load_by kinds.now taker source.entry }
+    ensures { result ≡ module_loaded_by kinds.now taker source.entry }
 {
     if source.is_external {
         return None;
@@ -355,19 +355,19 @@ fn add_number(number: Option<usize>, numbers: &mut IndexSet<usize>) -> Result<()
 fn loaded_of<'a>(
     alloc: Global,
     taker: usize,
-    module: usize,
-    meant: &TextSet<Target<'a>>,
+    which: usize,
+    meant: &TextSet<TargetRef<'a>>,
     names: &TextMap<Giver<'a>, Vec<&'a str>>,
 ) -> Result<Loaded<'a>, AllocError>
-    ensures number { IfOk result (λ loaded. loaded.module ≡ «module») }
+    ensures number { IfOk result (λ loaded. loaded.which ≡ which) }
     ensures taken { AreAllNames (targets_in meant.now) names.now →
         IfOk result (λ loaded. IsLoad (targets_in meant.now) taker loaded) }
 {
-    let giver = Giver::CommonJs { taker, module };
+    let giver = Giver::CommonJs { taker, which };
     let names = names_from(alloc, giver, names)?;
     let whole = meant.contains(&target_from(giver, Taken::Whole));
     Ok(Loaded {
-        module,
+        which,
         names,
         whole,
     })
@@ -384,8 +384,8 @@ pub fn external_stars_of<'a>(
     ensures { IfOk result (λ stars.
         (p : Program) →
         IsIndexOf p index.now →
-        AreModulesOf p kinds.now →
-        Picks (HasExternalStar p p.entry) (map specifier_of externals.now)
+        AreModulesKnown p kinds.now →
+        PicksThose (HasExternalStar p p.entry) (map specifier_of externals.now)
         (map (λ star. star.now) stars.items)) }
 {
     let reach = index.reach(alloc, kinds.entry)?;
@@ -405,8 +405,8 @@ fn starred_by<'a>(
 {
     let mut starred = TextSet::new(alloc);
     let all = modules.as_slice();
-    for module in all {
-        add_starred_of(kinds, *module, &mut starred)?;
+    for which in all {
+        add_starred_of(kinds, *which, &mut starred)?;
     }
     Ok(starred)
 }
@@ -414,14 +414,14 @@ fn starred_by<'a>(
 // Adds those that a module stars, if it is there.
 fn add_starred_of<'a>(
     kinds: &Kinds<'_, '_, 'a>,
-    module: usize,
+    which: usize,
     starred: &mut TextSet<&'a str>,
 ) -> Result<(), AllocError>
     ensures { (before : List Text) → HasTexts starred.old before →
-        OnOk result (HasTexts starred.new (before ++ starred_in kinds.now «module»)) }
+        OnOk result (HasTexts starred.new (before ++ starred_in kinds.now which)) }
 {
-    match kinds.tables(module) {
-        Some(tables) => add_starred(kinds, module, &tables.stars, starred),
+    match kinds.tables(which) {
+        Some(tables) => add_starred(kinds, which, &tables.stars, starred),
         None => Ok(()),
     }
 }
@@ -429,7 +429,7 @@ fn add_starred_of<'a>(
 // Adds those of stars.
 fn add_starred<'a>(
     kinds: &Kinds<'_, '_, 'a>,
-    module: usize,
+    which: usize,
     stars: &[&'a str],
     starred: &mut TextSet<&'a str>,
 ) -> Result<(), AllocError>
@@ -437,10 +437,10 @@ fn add_starred<'a>(
         HasTexts starred.old before →
         OnOk result
         (HasTexts starred.new
-        (before ++ flat_map (starred_one (lead_of kinds.now «module»)) stars.now)) }
+        (before ++ flat_map (starred_one (lead_of kinds.now which)) stars.now)) }
 {
     for star in stars {
-        add_star(kinds.lead(module, *star), *star, starred)?;
+        add_star(kinds.lead(which, *star), *star, starred)?;
     }
     Ok(())
 }

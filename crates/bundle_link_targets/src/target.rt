@@ -1,17 +1,17 @@
 //! What names stand for, and what linking tells of modules. Modules are named by their numbers.
 
-pub use bundle_link_index::target::{LinkModule, Setting, Target};
+pub use bundle_link_index::target::{LinkModule, Setting, TargetRef};
 
 /// What a module gives for a name (ECMA-262, 16.2.1.6.3 ResolveExport).
 #[derive(Clone, Copy)]
-pub enum Resolution<'a> {
+pub enum ResolvedTo<'a> {
     /// One target.
-    One(Target<'a>),
+    One(TargetRef<'a>),
     /// None.
     None,
     /// More than one; these two count as two. They are equal where they differ in the name bound by
     /// `import * as` that gives them.
-    Two(Target<'a>, Target<'a>),
+    Two(TargetRef<'a>, TargetRef<'a>),
     /// None, but an external that is starred may hold it.
     ExternalStar,
 }
@@ -20,7 +20,7 @@ pub enum Resolution<'a> {
 /// replaces with it.
 #[derive(Clone, Copy)]
 pub struct Meaning<'a> {
-    pub target: Target<'a>,
+    pub target: TargetRef<'a>,
     pub steps: usize,
 }
 
@@ -37,7 +37,7 @@ pub struct External<'a> {
 /// ascending, and whether the whole is.
 #[derive(Drop)]
 pub struct Loaded<'a> {
-    pub module: usize,
+    pub which: usize,
     pub names: Vec<&'a str>,
     pub whole: bool,
 }
@@ -70,8 +70,8 @@ pub enum FaultKind {
 /// A fault: what is wrong, in which module, and with which name or specifier, which is empty where none
 /// is told.
 #[derive(Clone, Copy, PartialEq, Eq, Debug)]
-pub struct Fault<'a> {
+pub struct LinkFault<'a> {
     pub kind: FaultKind,
-    pub module: usize,
+    pub which: usize,
     pub name: &'a str,
 }

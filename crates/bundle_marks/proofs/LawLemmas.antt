@@ -2,10 +2,10 @@
 use Rattle.std.proofs.Common.{◌≡◌, ℕ, Bool, true, false, cond, List, [], ◌∷◌, ◌++◌, Option, Some, None, map, unwrap_or, refl, ap, sym, ◌∙◌, append-nil}
 use Rattle.std.specs.List.{flat_map}
 use Rattle.bundle_tree_ast.specs.declared.module.ModuleItem.{ModuleItem}
-use Rattle.bundle_tree_piece.specs.declared.piece.Role.{Role}
-use Rattle.bundle_tree_piece.specs.declared.piece.Role.TheVariants as r
-use Rattle.bundle_tree_piece.specs.Item as h
-use Rattle.bundle_tree_piece.specs.Item.{Item, Head}
+use Rattle.bundle_syntax.specs.declared.piece.Role.{Role}
+use Rattle.bundle_syntax.specs.declared.piece.Role.TheVariants as r
+use Rattle.bundle_syntax.specs.Item as h
+use Rattle.bundle_syntax.specs.Item.{Item, Head}
 use Rattle.bundle_rules.specs.Places as places
 use Rattle.bundle_rules.specs.Places.{is_binding, occurrences}
 use Rattle.bundle_rules.specs.Nodes.{Text}
@@ -17,7 +17,7 @@ use Rattle.bundle_tree_places.specs.Edits.{Edited, node, is_occurrence, binding}
 use Rattle.bundle_tree_places.specs.Marks.{listed_as}
 use Rattle.bundle_tree_places.proofs.EditsLemmas.{rebuilt_so}
 use Rattle.bundle_tree_places.proofs.MarksLemmas.{listed-each}
-use Rattle.bundle_marks.specs.Composed.{list_of}
+use Rattle.bundle_marks.specs.Composed.{items_list}
 use Rattle.bundle_marks.proofs.Shapes.{Part, Specified, IsPlainName, Nothing, Joined, Hole, Plain, Name, Inside, Specifier, Shorthand, alone, named, plain, plains, word, text, made, names, names_specified, again, edits}
 use Rattle.bundle_marks.specs.Renamings.{KeepsSymbols}
 use Rattle.bundle_marks.proofs.Twice.{both, twice}
@@ -100,11 +100,11 @@ pub renamed_all-same : (one other : of_lists.Renaming) (tree : List Item) → ((
 renamed_all-same one other tree same = ap (λ (F : Ident → Change). rebuilt tree (map F (idents tree))) (λ i ident. same ident i)
 
 -- the law
-pub renamed_all-twice : (first second : of_lists.Renaming) (items : List ModuleItem) → KeepsSymbols (change_by first) → renamed_all second (renamed_all first (list_of items)) ≡ renamed_all (followed_by first second) (list_of items)
+pub renamed_all-twice : (first second : of_lists.Renaming) (items : List ModuleItem) → KeepsSymbols (change_by first) → renamed_all second (renamed_all first (items_list items)) ≡ renamed_all (followed_by first second) (items_list items)
 renamed_all-twice first second items keeps =
-    let part : Part false (list_of items) = items_part items in
+    let part : Part false (items_list items) = items_part items in
     ap (renamed_all second) (sym (made-is (change_by first) part))
     ∙ sym (made-is (change_by second) (again (change_by first) part))
     ∙ twice (change_by first) (change_by second) keeps part
     ∙ made-is (both (change_by first) (change_by second)) part
-    ∙ ap (λ (F : Ident → Change). rebuilt (list_of items) (map F (idents (list_of items)))) (λ i ident. sym (followed-is first second ident) i)
+    ∙ ap (λ (F : Ident → Change). rebuilt (items_list items) (map F (idents (items_list items)))) (λ i ident. sym (followed-is first second ident) i)

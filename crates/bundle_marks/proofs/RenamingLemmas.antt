@@ -10,19 +10,19 @@ use Rattle.std.proofs.lemmas.Slice.Eq.{bytes_eq-Decides}
 use Rattle.bundle_rules.specs.Idents.{Ident}
 use Rattle.bundle_rules.specs.Rebuilds.{Change, Renaming, change_by, change_then, change_to, followed_by, found, ident_eq, with_pair}
 use Rattle.bundle_tree.specs.IdName.{IdName, name_cmp}
-use Rattle.bundle_tree.specs.IdNameLaws.{name_cmp-ties, name_eq_equiv}
+use Rattle.bundle_tree.specs.IdNameLaws.{name_cmp-ties, id_name_eq_equiv}
 use Rattle.bundle_tree_places.proofs.RenameLemmas.{lookup-map, lookup-same}
 use Rattle.bundle_marks.specs.Idents.{ident_named}
-use Rattle.bundle_marks.specs.declared.renaming.Step.{Step}
-use Rattle.bundle_marks.specs.Renamings.{KeepsSymbols, SaySame, change_of_step, pair_of}
+use Rattle.bundle_marks.specs.declared.renaming.RenamingStep.{RenamingStep}
+use Rattle.bundle_marks.specs.Renamings.{KeepsSymbols, SaySame, change_of_step, renaming_pair}
 use Rattle.bundle_marks.specs.Composed.{Compose}
-use Rattle.bundle_marks.specs.Composed.{list_of}
+use Rattle.bundle_marks.specs.Composed.{items_list}
 use Rattle.bundle_marks.proofs.LawLemmas.{followed-is, renamed_all-same, renamed_all-twice}
 
 -- The map.
 
 -- what is found for an identifier is what the map has for its name
-pub lookup-step : (pairs : List (IdName × Step)) (name : IdName) → lookup (ident_eq (ident_named name)) (map pair_of pairs) ≡ option_map change_of_step (lookup (λ key. is_eq (name_cmp name key)) pairs)
+pub lookup-step : (pairs : List (IdName × RenamingStep)) (name : IdName) → lookup (ident_eq (ident_named name)) (map renaming_pair pairs) ≡ option_map change_of_step (lookup (λ key. is_eq (name_cmp name key)) pairs)
 lookup-step pairs name =
     lookup-map ident_named change_of_step (ident_eq (ident_named name)) pairs
     ∙ ap (option_map change_of_step) (lookup-same (λ key. ident_eq (ident_named name) (ident_named key)) (λ key. is_eq (name_cmp name key)) (λ key. name_cmp-ties name key) pairs)
@@ -32,14 +32,14 @@ abbrev name_of : Ident → IdName
 name_of ident = record { symbol = ident.0; context = ident.1 }
 
 -- a pair that is put in counts first
-pub insert-says : (old new : BTreeMap IdName Step) (from : IdName) (step : Step) → Updates name_cmp old new from (Some step) → SaySame (map pair_of new.entries) ((ident_named from, change_of_step step) ∷ map pair_of old.entries)
+pub insert-says : (old new : BTreeMap IdName RenamingStep) (from : IdName) (step : RenamingStep) → Updates name_cmp old new from (Some step) → SaySame (map renaming_pair new.entries) ((ident_named from, change_of_step step) ∷ map renaming_pair old.entries)
 insert-says old new from step updates = λ ident.
     lookup-step new.entries (name_of ident)
     ∙ ap (option_map change_of_step) (updates.0 (name_of ident))
     ∙ either (is_eq (name_cmp from (name_of ident))) (lookup (λ key. is_eq (name_cmp (name_of ident) key)) old.entries)
-    ∙ ap₂ (λ (b : Bool) (found : Option Change). cond b (Some (change_of_step step)) found) (sym (name_cmp-ties from (name_of ident)) ∙ name_eq_equiv.symm from (name_of ident)) (sym (lookup-step old.entries (name_of ident)))
+    ∙ ap₂ (λ (b : Bool) (found : Option Change). cond b (Some (change_of_step step)) found) (sym (name_cmp-ties from (name_of ident)) ∙ id_name_eq_equiv.symm from (name_of ident)) (sym (lookup-step old.entries (name_of ident)))
   where
-    either : (b : Bool) (found : Option Step) → option_map change_of_step (cond b (Some step) found) ≡ cond b (Some (change_of_step step)) (option_map change_of_step found)
+    either : (b : Bool) (found : Option RenamingStep) → option_map change_of_step (cond b (Some step) found) ≡ cond b (Some (change_of_step step)) (option_map change_of_step found)
     either true found = refl
     either false found = refl
 
@@ -49,16 +49,16 @@ copied-map f (Some one) = refl
 copied-map f None = refl
 
 -- a step that is put in
-pub put-says : (old new : BTreeMap IdName Step) (from to : IdName) (spelled : Bool) (renaming : Renaming) → spelled ≡ not (bytes_eq from.symbol to.symbol) → map pair_of old.entries ≡ renaming → Updates name_cmp old new from (Some (record { to = to; is_spelled_out = spelled })) → SaySame (map pair_of new.entries) (with_pair renaming (ident_named from) (ident_named to))
+pub put-says : (old new : BTreeMap IdName RenamingStep) (from to : IdName) (spelled : Bool) (renaming : Renaming) → spelled ≡ not (bytes_eq from.symbol to.symbol) → map renaming_pair old.entries ≡ renaming → Updates name_cmp old new from (Some (record { to = to; is_spelled_out = spelled })) → SaySame (map renaming_pair new.entries) (with_pair renaming (ident_named from) (ident_named to))
 put-says old new from to spelled renaming is view updates = λ ident.
     insert-says old new from (record { to = to; is_spelled_out = spelled }) updates ident
     ∙ ap₂ (λ (b : Bool) (all : Renaming). lookup (ident_eq ident) ((ident_named from, record { ident = ident_named to; is_spelled_out = b }) ∷ all)) is view
 
 -- a map of the same steps
-pub clone-says : (old new : BTreeMap IdName Step) → IsClone (λ (name copy : IdName). copy ≡ name) (λ (step copy : Step). change_of_step copy ≡ change_of_step step) old new → map pair_of new.entries ≡ map pair_of old.entries
+pub clone-says : (old new : BTreeMap IdName RenamingStep) → IsClone (λ (name copy : IdName). copy ≡ name) (λ (step copy : RenamingStep). change_of_step copy ≡ change_of_step step) old new → map renaming_pair new.entries ≡ map renaming_pair old.entries
 clone-says old new clone = by old.entries new.entries clone
   where
-    by : (olds news : List (IdName × Step)) → AllZip (λ p q. (q.0 ≡ p.0) × (change_of_step q.1 ≡ change_of_step p.1)) olds news → map pair_of news ≡ map pair_of olds
+    by : (olds news : List (IdName × RenamingStep)) → AllZip (λ p q. (q.0 ≡ p.0) × (change_of_step q.1 ≡ change_of_step p.1)) olds news → map renaming_pair news ≡ map renaming_pair olds
     by [] [] all = refl
     by [] (y ∷ ys) all = absurd all
     by (x ∷ xs) [] all = absurd all
@@ -73,20 +73,20 @@ pub cons-says : (one other : Renaming) (pair : Ident × Change) → SaySame one 
 cons-says one other pair says = λ ident. ap (cond (ident_eq ident pair.0) (Some pair.1)) (says ident)
 
 -- one more step of a renaming that goes on, in front of the others
-pub next-says : (second : Renaming) (old new : BTreeMap IdName Step) (done : List (IdName × Step)) (from : IdName) (step made : Step) → SaySame (map pair_of old.entries) (followed_by (map pair_of done) second) → change_of_step made ≡ change_then second (change_of_step step) → Updates name_cmp old new from (Some made) → SaySame (map pair_of new.entries) (followed_by (map pair_of ((from, step) ∷ done)) second)
+pub next-says : (second : Renaming) (old new : BTreeMap IdName RenamingStep) (done : List (IdName × RenamingStep)) (from : IdName) (step made : RenamingStep) → SaySame (map renaming_pair old.entries) (followed_by (map renaming_pair done) second) → change_of_step made ≡ change_then second (change_of_step step) → Updates name_cmp old new from (Some made) → SaySame (map renaming_pair new.entries) (followed_by (map renaming_pair ((from, step) ∷ done)) second)
 next-says second old new done from step made says is updates = λ ident.
     insert-says old new from made updates ident
-    ∙ ap (λ (change : Change). cond (ident_eq ident (ident_named from)) (Some change) (lookup (ident_eq ident) (map pair_of old.entries))) is
-    ∙ cons-says (map pair_of old.entries) (followed_by (map pair_of done) second) (ident_named from, change_then second (change_of_step step)) says ident
+    ∙ ap (λ (change : Change). cond (ident_eq ident (ident_named from)) (Some change) (lookup (ident_eq ident) (map renaming_pair old.entries))) is
+    ∙ cons-says (map renaming_pair old.entries) (followed_by (map renaming_pair done) second) (ident_named from, change_then second (change_of_step step)) says ident
 
 -- of these steps, those that are left, and a renaming by which those that are done go on
-pub record Followed (all rest : List (IdName × Step)) (second : Renaming) (made : BTreeMap IdName Step) : Type 0 where
-  pub done : List (IdName × Step)
+pub record Followed (all rest : List (IdName × RenamingStep)) (second : Renaming) (made : BTreeMap IdName RenamingStep) : Type 0 where
+  pub done : List (IdName × RenamingStep)
   pub split : all ≡ rest ++ done
-  pub says : SaySame (map pair_of made.entries) (followed_by (map pair_of done) second)
+  pub says : SaySame (map renaming_pair made.entries) (followed_by (map renaming_pair done) second)
 
 -- nothing is done
-pub followed-start : (all rest : List (IdName × Step)) (second : Renaming) (made : BTreeMap IdName Step) → rest ≡ all → map pair_of made.entries ≡ second → Followed all rest second made
+pub followed-start : (all rest : List (IdName × RenamingStep)) (second : Renaming) (made : BTreeMap IdName RenamingStep) → rest ≡ all → map renaming_pair made.entries ≡ second → Followed all rest second made
 followed-start all rest second made is same = record {
   done = [];
   split = sym is ∙ sym (append-nil rest);
@@ -94,23 +94,23 @@ followed-start all rest second made is same = record {
 }
 
 -- the last of those that are left is done
-pub followed-step : (all rest left : List (IdName × Step)) (second : Renaming) (old new : BTreeMap IdName Step) (from key : IdName) (step made : Step) → Followed all rest second old → rest ≡ left ++ (from, step) ∷ [] → key ≡ from → change_of_step made ≡ change_then second (change_of_step step) → Updates name_cmp old new key (Some made) → Followed all left second new
+pub followed-step : (all rest left : List (IdName × RenamingStep)) (second : Renaming) (old new : BTreeMap IdName RenamingStep) (from key : IdName) (step made : RenamingStep) → Followed all rest second old → rest ≡ left ++ (from, step) ∷ [] → key ≡ from → change_of_step made ≡ change_then second (change_of_step step) → Updates name_cmp old new key (Some made) → Followed all left second new
 followed-step all rest left second old new from key step made so_far last same is updates = record {
   done = (from, step) ∷ so_far.done;
-  split = so_far.split ∙ ap (λ (items : List (IdName × Step)). items ++ so_far.done) last ∙ append_assoc left ((from, step) ∷ []) so_far.done;
+  split = so_far.split ∙ ap (λ (items : List (IdName × RenamingStep)). items ++ so_far.done) last ∙ append_assoc left ((from, step) ∷ []) so_far.done;
   says = next-says second old new so_far.done from step made so_far.says is (subst (λ (name : IdName). Updates name_cmp old new name (Some made)) same updates);
 }
 
 -- all are done
-pub followed-end : (all rest : List (IdName × Step)) (first second : Renaming) (made : BTreeMap IdName Step) → map pair_of all ≡ first → Followed all rest second made → rest ≡ [] → SaySame (map pair_of made.entries) (followed_by first second)
+pub followed-end : (all rest : List (IdName × RenamingStep)) (first second : Renaming) (made : BTreeMap IdName RenamingStep) → map renaming_pair all ≡ first → Followed all rest second made → rest ≡ [] → SaySame (map renaming_pair made.entries) (followed_by first second)
 followed-end all rest first second made view so_far none =
-    let same : map pair_of so_far.done ≡ first = ap (map pair_of) (sym (so_far.split ∙ ap (λ (items : List (IdName × Step)). items ++ so_far.done) none)) ∙ view in
-    subst (λ (renaming : Renaming). SaySame (map pair_of made.entries) (followed_by renaming second)) same so_far.says
+    let same : map renaming_pair so_far.done ≡ first = ap (map renaming_pair) (sym (so_far.split ∙ ap (λ (items : List (IdName × RenamingStep)). items ++ so_far.done) none)) ∙ view in
+    subst (λ (renaming : Renaming). SaySame (map renaming_pair made.entries) (followed_by renaming second)) same so_far.says
 
 -- What is spelled out.
 
 -- the renaming that some steps stand for
-pub view-keeps : (steps : List (IdName × Step)) (renaming : Renaming) → map pair_of steps ≡ renaming → KeepsSymbols (change_by (map pair_of steps)) → KeepsSymbols (change_by renaming)
+pub view-keeps : (steps : List (IdName × RenamingStep)) (renaming : Renaming) → map renaming_pair steps ≡ renaming → KeepsSymbols (change_by (map renaming_pair steps)) → KeepsSymbols (change_by renaming)
 view-keeps steps renaming view keeps = subst (λ (all : Renaming). KeepsSymbols (change_by all)) view keeps
 
 pub same-keeps : (one other : Renaming) → SaySame one other → KeepsSymbols (change_by other) → KeepsSymbols (change_by one)
@@ -139,4 +139,4 @@ followed_by-keeps first second keeps_first keeps_second = λ ident short.
 pub composes : (first second both : Renaming) → KeepsSymbols (change_by first) → SaySame both (followed_by first second) → Compose first second both
 composes first second both keeps says items =
     renamed_all-twice first second items keeps
-    ∙ sym (renamed_all-same both (followed_by first second) (list_of items) (same-change both (followed_by first second) says))
+    ∙ sym (renamed_all-same both (followed_by first second) (items_list items) (same-change both (followed_by first second) says))

@@ -3,10 +3,10 @@
 use Rattle.std.proofs.Common.{◌≡◌, ℕ, Bool, true, false, List, [], ◌∷◌, ◌++◌, Option, Some, None, map, bytes_eq, refl, ap, sym, ◌∙◌, subst, append_assoc}
 use Rattle.std.specs.Prelude.{codes, if◌then◌else◌}
 use Rattle.std.proofs.lemmas.List.{map-append}
-use Rattle.bundle_tree_piece.specs.declared.piece.Role.{Role}
-use Rattle.bundle_tree_piece.specs.declared.piece.Role.TheVariants as r
-use Rattle.bundle_tree_piece.specs.Item as h
-use Rattle.bundle_tree_piece.specs.Item.{Item, Head}
+use Rattle.bundle_syntax.specs.declared.piece.Role.{Role}
+use Rattle.bundle_syntax.specs.declared.piece.Role.TheVariants as r
+use Rattle.bundle_syntax.specs.Item as h
+use Rattle.bundle_syntax.specs.Item.{Item, Head}
 use Rattle.bundle_rules.specs.Nodes.{Text}
 use Rattle.bundle_rules.specs.Shorthands.{is_object}
 use Rattle.bundle_rules.specs.Shape.{is_specifier}

@@ -1,12 +1,12 @@
 -- What the identifiers of a tree, and the names of bindings, stand for.
 use Rattle.std.specs.Prelude.{string_bytes}
-use Rattle.bundle_tree_leaf.specs.declared.ident.Ident as v_ident
+use Rattle.bundle_syntax.specs.declared.ident.Ident as v_ident
 use Rattle.bundle_rules.specs.Idents.{Ident}
 use Rattle.bundle_tree.specs.IdName.{IdName}
 
 -- an identifier of a tree: its symbol and its context
-abbrev pub ident_in : v_ident.Ident → Ident
-ident_in ident = (string_bytes ident.sym, ident.ctxt)
+abbrev pub tree_ident : v_ident.Ident → Ident
+tree_ident ident = (string_bytes ident.sym, ident.ctxt)
 
 -- the identifier that has this name
 abbrev pub ident_named : IdName → Ident

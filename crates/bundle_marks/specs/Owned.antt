@@ -7,11 +7,11 @@ use Rattle.bundle_marks.specs.declared.items.Mark.{Mark}
 use Rattle.bundle_marks.specs.declared.items.Mark.TheVariants as m
 
 -- an occurrence as an identifier, and whether it binds
-abbrev pub listed_of : Occurrence → Listed
-listed_of o = (ident_named o.id, o.binding)
+abbrev pub occurrence_listed : Occurrence → Listed
+occurrence_listed o = (ident_named o.id, o.binding)
 
 -- the mark that a `Mark` stands for
-abbrev pub mark_of : Mark → TreeMark
-mark_of (m.Open field node) = begin_of field node
-mark_of m.Close = Ends
-mark_of (m.Ident o) = Occurs (ident_named o.id) o.binding
+abbrev pub tree_mark_of : Mark → TreeMark
+tree_mark_of (m.Open field node) = begin_of field node
+tree_mark_of m.Close = Ends
+tree_mark_of (m.Ident o) = Occurs (ident_named o.id) o.binding

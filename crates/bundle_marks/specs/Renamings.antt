@@ -6,15 +6,15 @@ use Rattle.bundle_rules.specs.Rebuilds as r
 use Rattle.bundle_rules.specs.Rebuilds.{ident_eq}
 use Rattle.bundle_tree.specs.IdName.{IdName}
 use Rattle.bundle_marks.specs.Idents.{ident_named}
-use Rattle.bundle_marks.specs.declared.renaming.Step.{Step}
+use Rattle.bundle_marks.specs.declared.renaming.RenamingStep.{RenamingStep}
 
 -- the change that a step stands for
-abbrev pub change_of_step : Step → r.Change
+abbrev pub change_of_step : RenamingStep → r.Change
 change_of_step step = record { ident = ident_named step.to; is_spelled_out = step.is_spelled_out }
 
 -- a pair of a name and a step, as a pair of an identifier and a change
-abbrev pub pair_of : IdName × Step → Ident × r.Change
-pair_of pair = (ident_named pair.0, change_of_step pair.1)
+abbrev pub renaming_pair : IdName × RenamingStep → Ident × r.Change
+renaming_pair pair = (ident_named pair.0, change_of_step pair.1)
 
 -- an identifier that stays
 abbrev pub unchanged : Ident → r.Change

@@ -6,7 +6,7 @@ ghost use Rattle.bundle_tree_listed.specs.Tree.{module_item_items};
 ghost use Rattle.bundle_rules.specs.Rebuilds as rebuilds;
 ghost use Rattle.bundle_rules.specs.Rebuilds.{listed};
 ghost use Rattle.bundle_tree_places.specs.Marks.{listed_of as lent_as, mark_of as lent_mark};
-ghost use Rattle.bundle_marks.specs.Owned.{listed_of, mark_of};
+ghost use Rattle.bundle_marks.specs.Owned.{occurrence_listed, tree_mark_of};
 
 use bundle_tree::Id;
 use bundle_tree_ast::ModuleItem;
@@ -39,7 +39,7 @@ pub enum Mark<'a> {
 /// that bind or refer. The items stand in field 0, as in a `Module`. Refused only where memory runs out.
 pub fn marks<'a>(alloc: Global, items: &'a [ModuleItem]) -> Result<Vec<Mark<'a>>, AllocError>
     ensures { IfOk result (λ marks.
-        map mark_of marks.items ≡ rebuilds.marks_of (flat_map (module_item_items 0) items.now)) }
+        map tree_mark_of marks.items ≡ rebuilds.marks_of (flat_map (module_item_items 0) items.now)) }
 {
     let marks = lent_marks(alloc, items)?;
     own_marks(alloc, &marks)
@@ -49,14 +49,17 @@ pub fn marks<'a>(alloc: Global, items: &'a [ModuleItem]) -> Result<Vec<Mark<'a>>
 /// where memory runs out.
 pub fn occurrences(alloc: Global, items: &[ModuleItem]) -> Result<Vec<Occurrence>, AllocError>
     ensures { IfOk result (λ occurrences.
-        map listed_of occurrences.items ≡ listed (flat_map (module_item_items 0) items.now)) }
+        map occurrence_listed occurrences.items ≡ listed (flat_map (module_item_items 0) items.now)) }
 {
     let occurrences = lent_occurrences(alloc, items)?;
     own_occurrences(alloc, &occurrences)
 }
 
 // The marks of the items, with texts that are lent from them.
-fn lent_marks<'a>(alloc: Global, items: &'a [ModuleItem]) -> Result<Vec<lent::Mark<'a>>, AllocError>
+fn lent_marks<'a>(
+    alloc: Global,
+    items: &'a [ModuleItem],
+) -> Result<Vec<lent::MarkRef<'a>>, AllocError>
     ensures { IfOk result (λ marks.
         map lent_mark marks.items
         ≡ rebuilds.marks_of (flat_map (module_item_items 0) items.now)) }
@@ -69,7 +72,7 @@ fn lent_marks<'a>(alloc: Global, items: &'a [ModuleItem]) -> Result<Vec<lent::Ma
 pub(crate) fn lent_occurrences<'a>(
     alloc: Global,
     items: &'a [ModuleItem],
-) -> Result<Vec<lent::Occurrence<'a>>, AllocError>
+) -> Result<Vec<lent::OccurrenceRef<'a>>, AllocError>
     ensures { IfOk result (λ occurrences.
         map lent_as occurrences.items ≡ listed (flat_map (module_item_items 0) items.now)) }
 {
@@ -78,8 +81,8 @@ pub(crate) fn lent_occurrences<'a>(
 }
 
 // The marks with texts of their own at the occurrences.
-fn own_marks<'a>(alloc: Global, marks: &[lent::Mark<'a>]) -> Result<Vec<Mark<'a>>, AllocError>
-    ensures { IfOk result (λ own. map mark_of own.items ≡ map lent_mark marks.now) }
+fn own_marks<'a>(alloc: Global, marks: &[lent::MarkRef<'a>]) -> Result<Vec<Mark<'a>>, AllocError>
+    ensures { IfOk result (λ own. map tree_mark_of own.items ≡ map lent_mark marks.now) }
 {
     let mut own = Vec::new(alloc);
     for mark in marks {
@@ -91,9 +94,9 @@ fn own_marks<'a>(alloc: Global, marks: &[lent::Mark<'a>]) -> Result<Vec<Mark<'a>
 // The occurrences with texts of their own.
 fn own_occurrences<'a>(
     alloc: Global,
-    occurrences: &[lent::Occurrence<'a>],
+    occurrences: &[lent::OccurrenceRef<'a>],
 ) -> Result<Vec<Occurrence>, AllocError>
-    ensures { IfOk result (λ own. map listed_of own.items ≡ map lent_as occurrences.now) }
+    ensures { IfOk result (λ own. map occurrence_listed own.items ≡ map lent_as occurrences.now) }
 {
     let mut own = Vec::new(alloc);
     for occurrence in occurrences {
@@ -102,21 +105,21 @@ fn own_occurrences<'a>(
     Ok(own)
 }
 
-fn own_mark<'a>(alloc: Global, mark: lent::Mark<'a>) -> Result<Mark<'a>, AllocError>
-    ensures { IfOk result (λ own. mark_of own ≡ lent_mark mark.entry) }
+fn own_mark<'a>(alloc: Global, mark: lent::MarkRef<'a>) -> Result<Mark<'a>, AllocError>
+    ensures { IfOk result (λ own. tree_mark_of own ≡ lent_mark mark.entry) }
 {
     match mark {
-        lent::Mark::Open { field, node } => Ok(Mark::Open { field, node }),
-        lent::Mark::Close => Ok(Mark::Close),
-        lent::Mark::Ident(occurrence) => Ok(Mark::Ident(own_occurrence(alloc, occurrence)?)),
+        lent::MarkRef::Open { field, node } => Ok(Mark::Open { field, node }),
+        lent::MarkRef::Close => Ok(Mark::Close),
+        lent::MarkRef::Ident(occurrence) => Ok(Mark::Ident(own_occurrence(alloc, occurrence)?)),
     }
 }
 
 fn own_occurrence<'a>(
     alloc: Global,
-    occurrence: lent::Occurrence<'a>,
+    occurrence: lent::OccurrenceRef<'a>,
 ) -> Result<Occurrence, AllocError>
-    ensures { IfOk result (λ own. listed_of own ≡ lent_as occurrence.entry) }
+    ensures { IfOk result (λ own. occurrence_listed own ≡ lent_as occurrence.entry) }
 {
     let sym = String::from_str(alloc, occurrence.id.sym)?;
     Ok(Occurrence {

@@ -9,4 +9,4 @@ pub mod renaming;
 pub use bundle_tree_places::Node;
 pub use items::{Mark, Occurrence, marks, occurrences};
 pub use rename::{rename_ids, with_idents};
-pub use renaming::{Renaming, Step};
+pub use renaming::{Renaming, RenamingStep};

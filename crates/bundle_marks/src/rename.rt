@@ -9,13 +9,13 @@ ghost use Rattle.bundle_rules.specs.Rebuilds as rebuilds;
 ghost use Rattle.bundle_rules.specs.Rebuilds.{becomes_by, changes_to, ident_eq, renamed_by};
 ghost use Rattle.bundle_tree_places.specs.Changes.{change_of};
 ghost use Rattle.bundle_tree_places.specs.Marks.{ident_of};
-ghost use Rattle.bundle_marks.specs.Idents.{ident_in, ident_named, pair_named};
+ghost use Rattle.bundle_marks.specs.Idents.{tree_ident, ident_named, pair_named};
 
 use crate::items::lent_occurrences;
 use bundle_tree::Id;
 use bundle_tree_ast::{Ident, ModuleItem};
 use bundle_tree_names::SyntaxContext;
-use bundle_tree_places::{Change, Name, Occurrence};
+use bundle_tree_places::{Change, Name, OccurrenceRef};
 use bundle_tree_rewrite::rebuild_items;
 use std::alloc::{AllocError, Global};
 use std::collections::BTreeMap;
@@ -32,7 +32,7 @@ pub fn with_idents(
     ensures { IfOk result (λ made.
         flat_map (module_item_items 0) made.items
         ≡ rebuilds.with_idents (flat_map (module_item_items 0) items.now)
-        (map ident_in idents.now)) }
+        (map tree_ident idents.now)) }
 {
     let listed = lent_occurrences(alloc, items)?;
     let changes = changes_between(alloc, &listed, idents)?;
@@ -60,12 +60,12 @@ pub fn rename_ids<'a>(
 // The changes of these occurrences to these identifiers in turn.
 fn changes_between<'a, 'b>(
     alloc: Global,
-    listed: &[Occurrence<'a>],
+    listed: &[OccurrenceRef<'a>],
     idents: &'b [Ident],
 ) -> Result<Vec<Change<'b>>, AllocError>
     ensures { IfOk result (λ changes.
         map change_of changes.items
-        ≡ changes_to (map (λ o. ident_of o.id) listed.now) (map ident_in idents.now)) }
+        ≡ changes_to (map (λ o. ident_of o.id) listed.now) (map tree_ident idents.now)) }
 {
     let mut changes = Vec::new(alloc);
     for (old, new) in listed.iter().zip(idents) {
@@ -84,7 +84,7 @@ fn changes_between<'a, 'b>(
 // The changes of these occurrences to what they become. One text serves to ask the map for each of them.
 fn changes_by<'a>(
     alloc: Global,
-    listed: &[Occurrence<'a>],
+    listed: &[OccurrenceRef<'a>],
     renaming: &'a BTreeMap<Id, Id>,
 ) -> Result<Vec<Change<'a>>, AllocError>
     ensures { IfOk result (λ changes.

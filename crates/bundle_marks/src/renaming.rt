@@ -14,7 +14,7 @@ use std::marker::Model;
 
 /// What an identifier becomes, and whether some step on the way changed its symbol.
 #[derive(Drop)]
-pub struct Step {
+pub struct RenamingStep {
     pub to: Id,
     pub is_spelled_out: bool,
 }
@@ -24,21 +24,21 @@ pub struct Step {
 #[derive(Drop)]
 pub struct Renaming {
     alloc: Global,
-    steps: BTreeMap<Id, Step>,
+    steps: BTreeMap<Id, RenamingStep>,
 }
 
 impl Model for Renaming {
     ghost use Rattle.std.specs.Prelude.{map};
     ghost use Rattle.bundle_rules.specs.Rebuilds as r;
     ghost use Rattle.bundle_rules.specs.Rebuilds.{change_by};
-    ghost use Rattle.bundle_marks.specs.Renamings.{KeepsSymbols, pair_of};
+    ghost use Rattle.bundle_marks.specs.Renamings.{KeepsSymbols, renaming_pair};
 
     ghost Value = { r.Renaming };
 
-    ghost view = { λ it. map pair_of it.steps.entries };
+    ghost view = { λ it. map renaming_pair it.steps.entries };
 
     // What is not spelled out keeps its symbol.
-    ghost invariant = { λ it. KeepsSymbols (change_by (map pair_of it.steps.entries)) };
+    ghost invariant = { λ it. KeepsSymbols (change_by (map renaming_pair it.steps.entries)) };
 }
 
 impl Renaming {
@@ -64,7 +64,7 @@ impl Renaming {
     }
 
     /// What an identifier becomes, and whether what is short is spelled out, or `None` where it stays.
-    pub fn step(&self, id: &Id) -> Option<&Step>
+    pub fn step(&self, id: &Id) -> Option<&RenamingStep>
         ensures { option_map (λ step. change_of_step step.now) result
             ≡ lookup (ident_eq (ident_named id.now)) self.now }
     {
@@ -79,7 +79,8 @@ impl Renaming {
         ensures err { OnErr result (self.new ≡ self.old) }
     {
         let is_spelled_out = from.sym() != to.sym();
-        self.steps.insert(from, Step { to, is_spelled_out })?;
+        self.steps
+            .insert(from, RenamingStep { to, is_spelled_out })?;
         Ok(())
     }
 
@@ -100,14 +101,14 @@ impl Renaming {
     }
 }
 
-impl Step {
+impl RenamingStep {
     // This step and then what the renaming makes of it.
-    fn then(&self, next: &Renaming) -> Result<Step, AllocError>
+    fn then(&self, next: &Renaming) -> Result<RenamingStep, AllocError>
         ensures { IfOk result
             (λ made. change_of_step made ≡ change_then next.now (change_of_step self.now)) }
     {
         match next.step(&self.to) {
-            Some(step) => Ok(Step {
+            Some(step) => Ok(RenamingStep {
                 to: step.to.clone()?,
                 is_spelled_out: self.is_spelled_out || step.is_spelled_out,
             }),
@@ -116,14 +117,14 @@ impl Step {
     }
 }
 
-impl Clone for Step {
+impl Clone for RenamingStep {
     ghost use Rattle.std.specs.Prelude.{◌≡◌};
     ghost use Rattle.bundle_marks.specs.Renamings.{change_of_step};
 
     ghost is_clone = { λ step copy. change_of_step copy ≡ change_of_step step };
 
-    fn clone(&self) -> Result<Step, AllocError> {
-        Ok(Step {
+    fn clone(&self) -> Result<RenamingStep, AllocError> {
+        Ok(RenamingStep {
             to: self.to.clone()?,
             is_spelled_out: self.is_spelled_out,
         })

@@ -4,8 +4,8 @@ use Rattle.std.proofs.Common.{◌≡◌, ◌↔◌, ℕ, zero, ◌+◌, ◌<◌,
 use Rattle.std.specs.Prelude.{slice_get, unwrap_or, if◌then◌else◌}
 use Rattle.std.proofs.lemmas.Bool.{false≢true}
 use Rattle.std.proofs.lemmas.Option.{none-some, same_Some, slice_get_within}
-use Rattle.bundle_tree_leaf.specs.declared.kind.ExportMetadata.{ExportMetadata}
-use Rattle.bundle_tree_piece.specs.Item.{Item}
+use Rattle.bundle_syntax.specs.declared.kind.ExportMetadata.{ExportMetadata}
+use Rattle.bundle_syntax.specs.Item.{Item}
 use Rattle.bundle_order_graph.specs.Modules.{Modules, deps}
 use Rattle.bundle_order_sort.specs.Plan.{IsPlanOf}
 use Rattle.bundle_order_sort.specs.declared.plan.Block.{Block}
@@ -24,64 +24,64 @@ use Rattle.bundle_link_targets.specs.Linked.{HandsOver, IsLinkingOf}
 use Rattle.bundle_link_targets.specs.Meant.{AreModules}
 use Rattle.bundle_link_targets.specs.declared.linking.Linking.{Linking}
 use Rattle.bundle_link_targets.proofs.ListLemmas.{map-on}
-use Rattle.bundle_link_reached.specs.Alike.{IsAt}
-use Rattle.bundle_link_reached.specs.Judged.{numbers_below}
-use Rattle.bundle_link_reached.proofs.AlikeLemmas.{common_js_on, flip}
-use Rattle.bundle_link_reached.proofs.NumberLemmas.{held}
-use Rattle.bundle_link_reached.proofs.NumbersLemmas.{there_is}
-use Rattle.bundle_merge_meaning.specs.joined.Joined.{joined}
-use Rattle.bundle_scope_renamed.specs.fit.Fits.{AreFit}
-use Rattle.bundle_scope_renamed.specs.fit.Sorts.{AProperty, Many, slot}
-use Rattle.bundle_merge_whole.specs.made.Given.{Answer, Fresh, Written, WrittenIn}
-use Rattle.bundle_merge_whole.specs.made.Made.{AreMade}
-use Rattle.bundle_merge_whole.proofs.answered.Hooks.{all-held}
-use Rattle.bundle_merge_whole.specs.made.Alone.{AreSound, IsHolder, written_in}
-use Rattle.bundle_merge_whole.specs.planned.Blocks.{block_of}
-use Rattle.bundle_merge_whole.specs.planned.Decided.{AreDecided, Decided, DecidedBlock, index_of, numbers_from}
-use Rattle.bundle_merge_whole.specs.planned.Placed.{id_at}
-use Rattle.bundle_merge_whole.specs.sound.Known.{AreKnown, IsByPlaces}
-use Rattle.bundle_merge_whole.specs.sound.Decided.{AreLinkedBy, AreTold, decided_by}
-use Rattle.bundle_merge_whole.proofs.moved.Due.{turned-round}
-use Rattle.bundle_merge_whole.proofs.moved.Moved.{places-renamed}
-use Rattle.bundle_merge_whole.proofs.moved.Owed.{AreRenamed}
-use Rattle.bundle_merge_whole.proofs.moved.Requested.{blocks-in}
-use Rattle.bundle_merge_whole.proofs.moved.Stand.{may-hold-by}
-use Rattle.bundle_merge_whole.proofs.planned.BundleLemmas.{for-call}
-use Rattle.bundle_merge_whole.proofs.planned.RequestLemmas.{list-reached}
-use Rattle.bundle_merge_whole.proofs.planned.TreeCountLemmas as counted
-use Rattle.bundle_merge_whole.proofs.sound.Blocks.{planned-blocks}
-use Rattle.bundle_merge_whole.proofs.sound.Decided.{decided, linked-by}
-use Rattle.bundle_merge_whole.proofs.sound.Found.{below-from, entry-at, from-there, there-from}
-use Rattle.bundle_merge_whole.proofs.sound.Sound.{places-list, sound}
+use Rattle.bundle_link.specs.Alike.{IsModuleAt}
+use Rattle.bundle_link.specs.Judged.{numbers_below}
+use Rattle.bundle_link.proofs.AlikeLemmas.{common_js_on, flip}
+use Rattle.bundle_link.proofs.NumberLemmas.{held}
+use Rattle.bundle_link.proofs.NumbersLemmas.{there_is}
+use Rattle.bundle_merge_theory.specs.joined.Joined.{joined_items}
+use Rattle.bundle_scope_names.specs.fit.Fits.{AreFit}
+use Rattle.bundle_scope_names.specs.fit.Sorts.{AProperty, Many, slot}
+use Rattle.bundle_merge_theory.specs.made.Given.{HookAnswer, Fresh, Written, WrittenIn}
+use Rattle.bundle_merge_theory.specs.made.Made.{AreMade}
+use Rattle.bundle_merge_theory.proofs.answered.Hooks.{all-held}
+use Rattle.bundle_merge_theory.specs.made.Alone.{AreTreesSound, IsHolder, written_in}
+use Rattle.bundle_merge_theory.specs.planned.Blocks.{block_of}
+use Rattle.bundle_merge_theory.specs.planned.Decided.{AreDecided, Decided, DecidedBlock, index_of, numbers_from}
+use Rattle.bundle_merge_theory.specs.planned.Placed.{id_at}
+use Rattle.bundle_merge_theory.specs.sound.Known.{AreKnown, IsByPlaces}
+use Rattle.bundle_merge_theory.specs.sound.Decided.{AreTablesLinked, AreTablesTold, decided_by}
+use Rattle.bundle_merge_theory.proofs.moved.Due.{turned-round}
+use Rattle.bundle_merge_theory.proofs.moved.Moved.{places-renamed}
+use Rattle.bundle_merge_theory.proofs.moved.Owed.{AreRenamed}
+use Rattle.bundle_merge_theory.proofs.moved.Requested.{blocks-in}
+use Rattle.bundle_merge_theory.proofs.moved.Stand.{may-hold-by}
+use Rattle.bundle_merge_theory.proofs.planned.BundleLemmas.{for-call}
+use Rattle.bundle_merge_theory.proofs.planned.RequestLemmas.{list-reached}
+use Rattle.bundle_merge_theory.proofs.planned.TreeCountLemmas as counted
+use Rattle.bundle_merge_theory.proofs.sound.Blocks.{planned-blocks}
+use Rattle.bundle_merge_theory.proofs.sound.Decided.{decided, linked-by}
+use Rattle.bundle_merge_theory.proofs.sound.Found.{below-from, entry-at, from-there, there-from}
+use Rattle.bundle_merge_theory.proofs.sound.Sound.{places-list, sound}
 use Rattle.bundle_merge_names.specs.Bundle as written
-use Rattle.bundle_merge_names.specs.Bundle.{AreAnswers, AreBundleParts, AreWrittenApart, IsPartOf, StandsWritten}
+use Rattle.bundle_merge_names.specs.Bundle.{AreMetaAnswers, AreBundleParts, AreWrittenApart, IsPartOf, StandsWritten}
 use Rattle.bundle_merge_names.specs.Refused.{LacksForLabels, RefusesNames, TakesFew}
 use Rattle.bundle_merge_names.specs.declared.error.MergeError.TheVariants as e
 use Rattle.bundle_merge_names.specs.declared.part.Answered.{Answered}
 use Rattle.bundle_merge_names.specs.Numbers.{position}
-use Rattle.bundle_merge_names.specs.declared.part.BundleParts.{BundleParts}
-use Rattle.bundle_merge_names.specs.declared.part.Part.{Part}
-use Rattle.bundle_merge_items.specs.Added.{items_of}
+use Rattle.bundle_merge_names.specs.declared.part.BundleInput.{BundleInput}
+use Rattle.bundle_merge_names.specs.declared.part.BundleModule.{BundleModule}
+use Rattle.bundle_merge_items.specs.Added.{module_item_lists}
 use Rattle.bundle_merge_items.specs.Adds.{AreAnswered, any_hooks, decided_of}
 use Rattle.bundle_merge_items.specs.Merged.{AreBlocksOnce}
-use Rattle.bundle_merge_items.specs.declared.merge.Merged.{Merged}
+use Rattle.bundle_merge_items.specs.declared.merge.MergedModule.{MergedModule}
 use Rattle.bundle_merge_items.proofs.LackLemmas.{labels-lack, refused-lacks}
 use Rattle.bundle_merge_items.proofs.NeedsLemmas.{needs-by}
 use Rattle.bundle_merge_items.proofs.Once.{blocks-once}
 use Rattle.bundle_merge.specs.Handed.{AreObjectsApart, StandsInObject, StandsInside, its_inside, its_name}
-use Rattle.bundle_merge.specs.Placed.{AreRight, ArePlaced, HasFront, nothing, object}
+use Rattle.bundle_merge.specs.Placed.{AreModulesRight, AreReadAndLinked, HasFront, nothing, object}
 use Rattle.bundle_merge.specs.Ready.{IsMergedAs}
 use Rattle.bundle_merge.proofs.Places as places
 use Rattle.bundle_merge.proofs.Merging.{made-merged}
 
 -- a bundle of parts that were read so
-pub record IsReadBundle (p : Program) (hooks : Hooks) (list : List ℕ) (links : List LinkModule) (parts : List Part) (linking : Linking) (plan : Plan) (local : ℕ → ℕ) (answers : ℕ → Option Answer) (bundle : BundleParts) : Type 0 where
+pub record IsReadBundle (p : Program) (hooks : Hooks) (list : List ℕ) (links : List LinkModule) (parts : List BundleModule) (linking : Linking) (plan : Plan) (local : ℕ → ℕ) (answers : ℕ → Option HookAnswer) (bundle : BundleInput) : Type 0 where
   pub handed : bundle.parts.now ≡ parts
   pub unasked : bundle.answers.now ≡ []
   pub linked : bundle.linking.now ≡ linking
   pub blocks : bundle.blocks.now ≡ plan.blocks.items
-  pub locals : (k m : ℕ) (part : Part) → slice_get list k ≡ Some m → slice_get parts k ≡ Some part → part.local ≡ local m
-  pub fronts : (k m : ℕ) (part : Part) → slice_get list k ≡ Some m → slice_get parts k ≡ Some part → HasFront p hooks m part (answers k)
+  pub locals : (k m : ℕ) (part : BundleModule) → slice_get list k ≡ Some m → slice_get parts k ≡ Some part → part.local ≡ local m
+  pub fronts : (k m : ℕ) (part : BundleModule) → slice_get list k ≡ Some m → slice_get parts k ≡ Some part → HasFront p hooks m part (answers k)
   pub past : (k : ℕ) → slice_get list k ≡ None → answers k ≡ None
   pub objects : AreObjectsApart list local (position bundle.contexts) answers
   pub own : (m : ℕ) → IsReached p m → 1 < local m
@@ -90,34 +90,34 @@ pub record IsReadBundle (p : Program) (hooks : Hooks) (list : List ℕ) (links :
 
 -- ---- what stands in front of a part
 -- an object that holds the `import.meta` of a module, and in which properties stand
-abbrev FitsObject : Program → Hooks → ℕ → Option Answer → Type 0
+abbrev FitsObject : Program → Hooks → ℕ → Option HookAnswer → Type 0
 FitsObject p hooks m None = ⊥
 FitsObject p hooks m (Some (Fresh properties)) = ⊥
 FitsObject p hooks m (Some (Written ctxt notes properties)) =
     IsMetaItem p hooks m (meta_item notes ctxt properties)
     × AreFit (slot 0 Many AProperty ∷ []) properties
 
-module _ {p : Program} {hooks : Hooks} {m : ℕ} {part : Part} where
+module _ {p : Program} {hooks : Hooks} {m : ℕ} {part : BundleModule} where
   -- it is what is told of its `import.meta`, for which the hook is not asked
-  front-answers : {answer : Option Answer} → HasFront p hooks m part answer →
-      AreAnswers answer part None
+  front-answers : {answer : Option HookAnswer} → HasFront p hooks m part answer →
+      AreMetaAnswers answer part None
   front-answers (nothing not none) = none
   front-answers (object ctxt notes properties has its fits is) = is
 
   -- it is there for just a module that has one
-  front-there : {answer : Option Answer} → HasFront p hooks m part answer →
-      has_import_meta (tree_of p m) ≡ true → (its : Answer) × (answer ≡ Some its)
+  front-there : {answer : Option HookAnswer} → HasFront p hooks m part answer →
+      has_import_meta (tree_of p m) ≡ true → (its : HookAnswer) × (answer ≡ Some its)
   front-there (nothing not none) has = absurd (false≢true (sym not ∙ has))
   front-there (object ctxt notes properties has its fits is) also =
       (Written ctxt notes properties, refl)
 
-  front-has : {answer : Option Answer} → HasFront p hooks m part answer → (its : Answer) →
+  front-has : {answer : Option HookAnswer} → HasFront p hooks m part answer → (its : HookAnswer) →
       answer ≡ Some its → has_import_meta (tree_of p m) ≡ true
   front-has (nothing not none) its same = absurd (none-some its same)
   front-has (object ctxt notes properties has meta fits is) its same = has
 
   -- and no answer that is fresh
-  front-written : {answer : Option Answer} → HasFront p hooks m part answer →
+  front-written : {answer : Option HookAnswer} → HasFront p hooks m part answer →
       (properties : List Item) → answer ≡ Some (Fresh properties) → ⊥
   front-written (nothing not none) properties same = none-some (Fresh properties) same
   front-written (object ctxt notes inside has meta fits is) properties same =
@@ -125,14 +125,14 @@ module _ {p : Program} {hooks : Hooks} {m : ℕ} {part : Part} where
       same_Some (Written ctxt notes inside) (Fresh properties) same in cc
 
   -- but the object that holds it
-  front-object : {answer : Option Answer} → HasFront p hooks m part answer →
-      (its : Answer) → answer ≡ Some its → FitsObject p hooks m (Some its)
+  front-object : {answer : Option HookAnswer} → HasFront p hooks m part answer →
+      (its : HookAnswer) → answer ≡ Some its → FitsObject p hooks m (Some its)
   front-object (nothing not none) its same = absurd (none-some its same)
   front-object (object ctxt notes properties has meta fits is) its same =
       subst (FitsObject p hooks m) same (meta, fits)
 
 -- what stands in an object does so whatever the program
-module _ {q : Program} {answers : ℕ → Option Answer} {k ctxt : ℕ} where
+module _ {q : Program} {answers : ℕ → Option HookAnswer} {k ctxt : ℕ} where
   holder-inside : IsHolder q answers (WrittenIn k ctxt) → StandsInside answers k ctxt
   holder-inside (written_in own notes properties kind begins name i o reached told there denoted is) =
       record {
@@ -154,7 +154,7 @@ module _ {q : Program} {answers : ℕ → Option Answer} {k ctxt : ℕ} where
   stands-in (written.its_name notes properties reached told) = its_name notes properties told
   stands-in (written.its_inside holder) = its_inside (holder-inside holder)
 
-module _ (p : Program) (list : List ℕ) (right : AreRight p list) (links : List LinkModule) (parts : List Part) (are : ArePlaced p list links parts) (linking : Linking) where
+module _ (p : Program) (list : List ℕ) (right : AreModulesRight p list) (links : List LinkModule) (parts : List BundleModule) (are : AreReadAndLinked p list links parts) (linking : Linking) where
   abbrev q : Program
   q = places.by_place p list right links parts are
 
@@ -165,13 +165,13 @@ module _ (p : Program) (list : List ℕ) (right : AreRight p list) (links : List
   kind-back : (k m : ℕ) (kind : ModuleKind) → slice_get list k ≡ Some m → HasKind q k kind →
       HasKind p m kind
   kind-back k m _ at (is_es not) =
-      is_es (λ common. not (common_js_on p q (IsAt list) (places.alike p list right links parts are) m k at common))
+      is_es (λ common. not (common_js_on p q (IsModuleAt list) (places.alike p list right links parts are) m k at common))
   kind-back k m _ at (is_common_js is) =
       is_common_js
-      (common_js_on q p (λ a b. IsAt list b a) (flip (places.alike p list right links parts are)) k
+      (common_js_on q p (λ a b. IsModuleAt list b a) (flip (places.alike p list right links parts are)) k
       m at is)
 
-  module _ (linked : IsLinkingOf q linking) (handed : HandsOver q (numbers_below (length links)) linking) (g : Modules) (graph : (m : ℕ) → deps g m ≡ requested p m) (plan : Plan) (planned : IsPlanOf g p.entry list plan) (hooks : Hooks) (local : ℕ → ℕ) (answers : ℕ → Option Answer) (bundle : BundleParts) (b : IsReadBundle p hooks list links parts linking plan local answers bundle) where
+  module _ (linked : IsLinkingOf q linking) (handed : HandsOver q (numbers_below (length links)) linking) (g : Modules) (graph : (m : ℕ) → deps g m ≡ requested p m) (plan : Plan) (planned : IsPlanOf g p.entry list plan) (hooks : Hooks) (local : ℕ → ℕ) (answers : ℕ → Option HookAnswer) (bundle : BundleInput) (b : IsReadBundle p hooks list links parts linking plan local answers bundle) where
     modules : AreModules q
     modules =
         places.modules-are p list right links parts are
@@ -218,17 +218,17 @@ module _ (p : Program) (list : List ℕ) (right : AreRight p list) (links : List
         omega (arith, below)
 
     -- ---- the parts
-    its-part : (k : ℕ) (part : Part) → slice_get bundle.parts.now k ≡ Some part →
+    its-part : (k : ℕ) (part : BundleModule) → slice_get bundle.parts.now k ≡ Some part →
         slice_get parts k ≡ Some part
-    its-part k part at = ap (λ (l : List Part). slice_get l k) (sym b.handed) ∙ at
+    its-part k part at = ap (λ (l : List BundleModule). slice_get l k) (sym b.handed) ∙ at
 
-    module-at : (k : ℕ) (part : Part) → slice_get bundle.parts.now k ≡ Some part →
+    module-at : (k : ℕ) (part : BundleModule) → slice_get bundle.parts.now k ≡ Some part →
         (m : ℕ) × (slice_get list k ≡ Some m)
     module-at k part at =
         let within = slice_get_within bundle.parts.now k part at in
         there_is list k (omega (arith, within, long))
 
-    part-is : (k : ℕ) (part : Part) → slice_get bundle.parts.now k ≡ Some part →
+    part-is : (k : ℕ) (part : BundleModule) → slice_get bundle.parts.now k ≡ Some part →
         IsPartOf q k part
     part-is k part at =
         let m = module-at k part at in
@@ -243,14 +243,14 @@ module _ (p : Program) (list : List ℕ) (right : AreRight p list) (links : List
           leads = λ s. places.lead-at p list right links parts are k part there s;
         }
 
-    local-at : (k m : ℕ) (part : Part) → slice_get bundle.parts.now k ≡ Some part →
+    local-at : (k m : ℕ) (part : BundleModule) → slice_get bundle.parts.now k ≡ Some part →
         slice_get list k ≡ Some m → part.local ≡ local m
     local-at k m part at there = b.locals k m part there (its-part k part at)
 
     is-reached : (k m : ℕ) → slice_get list k ≡ Some m → IsReached p m
     is-reached k m at = (list-reached p list right.is_list m).0 (held list m k at)
 
-    front-at : (k m : ℕ) (part : Part) → slice_get bundle.parts.now k ≡ Some part →
+    front-at : (k m : ℕ) (part : BundleModule) → slice_get bundle.parts.now k ≡ Some part →
         slice_get list k ≡ Some m → HasFront p hooks m part (answers k)
     front-at k m part at there = b.fronts k m part there (its-part k part at)
 
@@ -286,7 +286,7 @@ module _ (p : Program) (list : List ℕ) (right : AreRight p list) (links : List
       answered = λ k part at.
           let m = module-at k part at in
           subst
-          (λ (l : List (Option Answered)). AreAnswers (answers k) part (unwrap_or (slice_get l k) None))
+          (λ (l : List (Option Answered)). AreMetaAnswers (answers k) part (unwrap_or (slice_get l k) None))
           (sym b.unasked) (front-answers (front-at k m.0 part at m.1));
       written = objects-apart;
       own = λ k part at.
@@ -326,7 +326,7 @@ module _ (p : Program) (list : List ℕ) (right : AreRight p list) (links : List
     -- the part at a place that is told something of
     record PartAt (k : ℕ) : Type 0 where
       m : ℕ
-      part : Part
+      part : BundleModule
       at : slice_get list k ≡ Some m
       front : HasFront p hooks m part (answers k)
 
@@ -335,7 +335,7 @@ module _ (p : Program) (list : List ℕ) (right : AreRight p list) (links : List
         let part = places.part-at p list right links parts are k m at in
         record { m = m; part = part.0; at = at; front = b.fronts k m part.0 at part.1 }
 
-    told-part : (k : ℕ) (answer : Answer) → answers k ≡ Some answer → PartAt k
+    told-part : (k : ℕ) (answer : HookAnswer) → answers k ≡ Some answer → PartAt k
     told-part k answer told = by (slice_get list k) refl
       where
         by : (o : Option ℕ) → slice_get list k ≡ o → PartAt k
@@ -351,14 +351,14 @@ module _ (p : Program) (list : List ℕ) (right : AreRight p list) (links : List
     none-fresh k properties told =
         front-written (told-part k (Fresh properties) told).front properties told
 
-    has-meta : (k : ℕ) (answer : Answer) → answers k ≡ Some answer →
+    has-meta : (k : ℕ) (answer : HookAnswer) → answers k ≡ Some answer →
         has_import_meta (tree_of q k) ≡ true
     has-meta k answer told =
         let it = told-part k answer told in
         tree-back k it.m it.at ∙ front-has it.front answer told
 
     -- modules under other numbers
-    to-places : AreRenamed q p (λ k m. IsAt list m k) (id_at list) (λ m. index_of m list)
+    to-places : AreRenamed q p (λ k m. IsModuleAt list m k) (id_at list) (λ m. index_of m list)
     to-places =
         places-renamed p q list (places.are-moved p list right links parts are)
 
@@ -367,7 +367,7 @@ module _ (p : Program) (list : List ℕ) (right : AreRight p list) (links : List
     meta-by k m item at its = record {
       answered = its.answered;
       held =
-          may-hold-by p q (λ m k. IsAt list m k) (λ m. index_of m list) (id_at list)
+          may-hold-by p q (λ m k. IsModuleAt list m k) (λ m. index_of m list) (id_at list)
           (turned-round to-places) hooks m k its.answered at its.held;
       faultless = record {
         undoubled = its.faultless.undoubled;
@@ -438,14 +438,14 @@ module _ (p : Program) (list : List ℕ) (right : AreRight p list) (links : List
       written_fit = λ k ctxt notes properties told. (object-by k ctxt notes properties told).1;
     }
 
-    pub is-sound : AreSound q (numbers_from zero n)
+    pub is-sound : AreTreesSound q (numbers_from zero n)
     is-sound = sound p q list known
 
-    pub are-told : AreTold q (length bundle.parts.now) (λ k. has_import_meta (tree_of q k))
+    pub are-told : AreTablesTold q (length bundle.parts.now) (λ k. has_import_meta (tree_of q k))
         (λ k. length (own_statements (tree_of q k)))
     are-told = record { meta_told = λ k below. refl; counted = λ k below. refl }
 
-    told-there : AreTold q n (λ k. has_import_meta (tree_of q k))
+    told-there : AreTablesTold q n (λ k. has_import_meta (tree_of q k))
         (λ k. length (own_statements (tree_of q k)))
     told-there = record { meta_told = λ k below. refl; counted = λ k below. refl }
 
@@ -462,15 +462,15 @@ module _ (p : Program) (list : List ℕ) (right : AreRight p list) (links : List
         ∙ ap (λ (blocks : List Block). decided_by linking (λ k. has_import_meta (tree_of q k))
         (λ k. length (own_statements (tree_of q k))) n (map block_of blocks)) b.blocks
 
-    are-linked : AreLinkedBy q n linking (λ k. has_import_meta (tree_of q k))
+    are-linked : AreTablesLinked q n linking (λ k. has_import_meta (tree_of q k))
         (λ k. length (own_statements (tree_of q k)))
     are-linked =
         linked-by p q list g by-places linking (λ k. has_import_meta (tree_of q k))
         (λ k. length (own_statements (tree_of q k))) linked handed-on modules told-there
 
     -- what is merged of them is merged right
-    pub is-merged : (merged : Merged) → IsMergedAs bundle merged →
-        IsMerged (λ x. x) local p hooks (joined (items_of merged.«module»))
+    pub is-merged : (merged : MergedModule) → IsMergedAs bundle merged →
+        IsMerged (λ x. x) local p hooks (joined_items (module_item_lists merged.tree))
     is-merged merged made =
         let its =
         made q (numbers_from zero n) answers (λ k. has_import_meta (tree_of q k))
@@ -481,7 +481,7 @@ module _ (p : Program) (list : List ℕ) (right : AreRight p list) (links : List
         (λ k properties told. absurd (none-fresh k properties told))
         (λ k ctxt notes properties told. (object-by k ctxt notes properties told).0)
         _ its.orders its.items its.made in
-        subst (λ l. IsMerged (λ x. x) local p hooks (joined l)) (sym its.is)
+        subst (λ l. IsMerged (λ x. x) local p hooks (joined_items l)) (sym its.is)
         (made-merged p q list g by-places known (places.are-moved p list right links parts are)
         linking (λ k. has_import_meta (tree_of q k)) (λ k. length (own_statements (tree_of q k)))
         are-linked plan planned hooks its.context answers its.orders its.items
@@ -492,7 +492,7 @@ module _ (p : Program) (list : List ℕ) (right : AreRight p list) (links : List
         (let below = (below-reached k).0 reached in
         let m = there_is list k below in
         let part = places.part-at p list right links parts are k m.0 m.1 in
-        let there = ap (λ (l : List Part). slice_get l k) b.handed ∙ part.1 in
+        let there = ap (λ (l : List BundleModule). slice_get l k) b.handed ∙ part.1 in
         its.tops k part.0 there ∙ b.locals k m.0 part.0 m.1 part.1
         ∙ ap (λ o. local (unwrap_or o zero)) (sym m.1))))
 
@@ -534,7 +534,7 @@ module _ (p : Program) (list : List ℕ) (right : AreRight p list) (links : List
         NeedsTooManyContexts q hooks (position bundle.contexts)) →
         NeedsTooManyContexts p hooks (position bundle.contexts)
     program-lacks lacks =
-        needs-by q p (λ k m. IsAt list m k) (id_at list) (λ m. index_of m list) to-places hooks
+        needs-by q p (λ k m. IsModuleAt list m k) (id_at list) (λ m. index_of m list) to-places hooks
         (position bundle.contexts) (places-need (position bundle.contexts) lacks)
 
     -- where they get no names
@@ -551,7 +551,7 @@ module _ (p : Program) (list : List ℕ) (right : AreRight p list) (links : List
         (sym same) refuses))
 
     -- also where they get names, and all contexts are taken for them
-    pub all-taken : (merged : Merged) →
+    pub all-taken : (merged : MergedModule) →
         TakesFew q (numbers_from zero n) answers (position bundle.contexts)
         (position merged.contexts) →
         position merged.contexts ≡ 4294967296 →

@@ -3,9 +3,9 @@ use Rattle.std.proofs.Common.{◌≡◌, ℕ, zero, suc, Bool, true, false, cond
 use Rattle.std.specs.Prelude.{filter, replicate, slice_get, slice_set}
 use Rattle.std.proofs.lemmas.Option.{none-some, same_Some}
 use Rattle.bundle_tree_ast.specs.declared.module.Module.{Module}
-use Rattle.bundle_tree_piece.specs.Item.{Item}
+use Rattle.bundle_syntax.specs.Item.{Item}
 use Rattle.bundle_rules.specs.Parts.{Owned, items_in}
-use Rattle.bundle_merge_items.specs.Added.{items_of}
+use Rattle.bundle_merge_items.specs.Added.{module_item_lists}
 use Rattle.bundle_merge.specs.Prepared.{with_one, items_of_each}
 
 -- the items that were copied of each module, with those of the module that are left
@@ -116,20 +116,20 @@ copied-end (id ∷ ids) (its ∷ lists) long =
 -- ---- modules
 -- a module at a place with one more item
 pub set-one : (copies : List Module) (place : ℕ) (its more : Module) (item : List Item) →
-    slice_get copies place ≡ Some its → items_of more ≡ items_of its ++ item ∷ [] →
-    map items_of (slice_set copies place more) ≡ with_one place item (map items_of copies)
+    slice_get copies place ≡ Some its → module_item_lists more ≡ module_item_lists its ++ item ∷ [] →
+    map module_item_lists (slice_set copies place more) ≡ with_one place item (map module_item_lists copies)
 set-one [] place its more item at is = absurd (none-some its at)
 set-one (x ∷ copies) zero its more item at is =
-    ap (λ l. l ∷ map items_of copies)
-    (is ∙ ap (λ (its : Module). items_of its ++ item ∷ []) (sym (same_Some x its at)))
+    ap (λ l. l ∷ map module_item_lists copies)
+    (is ∙ ap (λ (its : Module). module_item_lists its ++ item ∷ []) (sym (same_Some x its at)))
 set-one (x ∷ copies) (suc place) its more item at is =
-    ap (λ l. items_of x ∷ l) (set-one copies place its more item at is)
+    ap (λ l. module_item_lists x ∷ l) (set-one copies place its more item at is)
 
 -- where none stands at the place
 pub set-none : (copies : List Module) (place : ℕ) (item : List Item) →
     slice_get copies place ≡ None →
-    map items_of copies ≡ with_one place item (map items_of copies)
+    map module_item_lists copies ≡ with_one place item (map module_item_lists copies)
 set-none [] place item at = refl
 set-none (x ∷ copies) zero item at = absurd (none-some x (sym at))
 set-none (x ∷ copies) (suc place) item at =
-    ap (λ l. items_of x ∷ l) (set-none copies place item at)
+    ap (λ l. module_item_lists x ∷ l) (set-none copies place item at)

@@ -11,22 +11,22 @@ use Rattle.bundle_order_sort.specs.declared.plan.Plan.{Plan}
 use Rattle.bundle_rules.specs.Program.{Program}
 use Rattle.bundle_link.specs.declared.link.Linker.{Linker}
 use Rattle.bundle_link.specs.declared.transformed.TransformedModule.{TransformedModule}
-use Rattle.bundle_link_index.specs.Programs.{IsProgramOf}
+use Rattle.bundle_link_index.specs.Programs.{IsLinkProgram}
 use Rattle.bundle_link_index.specs.declared.target.LinkModule.{LinkModule}
-use Rattle.bundle_link_reached.specs.Judged.{numbers_below}
-use Rattle.bundle_link_reached.proofs.NumberLemmas.{held}
-use Rattle.bundle_link_reached.proofs.NumbersLemmas.{there_is}
+use Rattle.bundle_link.specs.Judged.{numbers_below}
+use Rattle.bundle_link.proofs.NumberLemmas.{held}
+use Rattle.bundle_link.proofs.NumbersLemmas.{there_is}
 use Rattle.bundle_link_targets.specs.Linked.{HandsOver, IsLinkingOf}
 use Rattle.bundle_link_targets.specs.declared.linking.Linking.{Linking}
 use Rattle.bundle_merge_names.specs.declared.error.MergeError.{MergeError}
-use Rattle.bundle_merge_names.specs.declared.part.BundleParts.{BundleParts}
-use Rattle.bundle_merge_names.specs.declared.part.Part.{Part}
+use Rattle.bundle_merge_names.specs.declared.part.BundleInput.{BundleInput}
+use Rattle.bundle_merge_names.specs.declared.part.BundleModule.{BundleModule}
 use Rattle.bundle_merge_names.proofs.ScopeLemmas.{push-cases}
-use Rattle.bundle_merge_items.specs.declared.merge.Merged.{Merged}
+use Rattle.bundle_merge_items.specs.declared.merge.MergedModule.{MergedModule}
 use Rattle.bundle_merge.specs.Handed.{AreReadFrom, IsBundleRead, IsLinkRead, IsLinkedRead, IsMadeOfRead, IsPartRead, MayRefuseRead}
-use Rattle.bundle_merge.specs.Read.{AreAllKnown, IsKnown, IsReadAt, IsReadOf}
+use Rattle.bundle_merge.specs.Read.{AreAllKnown, IsModuleKnown, IsReadAt, IsReadModuleOf}
 use Rattle.bundle_merge.specs.Ready.{IsMergedAs, IsRefusedAs, TakesAs}
-use Rattle.bundle_merge.specs.declared.read.Read.{Read}
+use Rattle.bundle_merge.specs.declared.read.ReadModule.{ReadModule}
 
 -- nothing was read of no modules
 pub none-read : (linker : Linker) (ids list : List ℕ) (copies : List Module) →
@@ -37,30 +37,30 @@ none-read linker ids list copies = record {
 }
 
 -- what was read of so many modules, and of one more
-module _ (linker : Linker) (ids list : List ℕ) (copies : List Module) (n : ℕ) (reads more : List Read) (read : Read) (is : more ≡ reads ++ read ∷ []) where
+module _ (linker : Linker) (ids list : List ℕ) (copies : List Module) (n : ℕ) (reads more : List ReadModule) (read : ReadModule) (is : more ≡ reads ++ read ∷ []) where
   -- what was read of the module that stands next
   abbrev IsNext : Type 0
   IsNext =
-      (m : ℕ) (its : Module) (part : Part) → slice_get list n ≡ Some m →
+      (m : ℕ) (its : Module) (part : BundleModule) → slice_get list n ≡ Some m →
       slice_get copies n ≡ Some its → IsPartRead read part → IsReadAt linker ids m its part
 
   -- it is so where the module is known, and this was read of it
   pub next-read : (m : ℕ) (its : Module) (known : TransformedModule) →
-      slice_get list n ≡ Some m → slice_get copies n ≡ Some its → IsKnown linker m known →
-      ((part : Part) → IsPartRead read part → IsReadOf linker known ids its.body.items part) →
+      slice_get list n ≡ Some m → slice_get copies n ≡ Some its → IsModuleKnown linker m known →
+      ((part : BundleModule) → IsPartRead read part → IsReadModuleOf linker known ids its.body.items part) →
       IsNext
   next-read m its known at there is_known reads_as other given part its_at its_there handed =
       let same : m ≡ other = same_Some m other (sym at ∙ its_at) in
       let copy : its ≡ given = same_Some its given (sym there ∙ its_there) in
       record {
         known = known;
-        is_known = subst (λ (k : ℕ). IsKnown linker k known) same is_known;
+        is_known = subst (λ (k : ℕ). IsModuleKnown linker k known) same is_known;
         is =
-            subst (λ (it : Module). IsReadOf linker known ids it.body.items part) copy
+            subst (λ (it : Module). IsReadModuleOf linker known ids it.body.items part) copy
             (reads_as part handed);
       }
 
-  long-more : (xs : List Read) → length (xs ++ read ∷ []) ≡ length xs + 1
+  long-more : (xs : List ReadModule) → length (xs ++ read ∷ []) ≡ length xs + 1
   long-more [] = refl
   long-more (x ∷ xs) = let rest = long-more xs in omega (arith, rest)
 
@@ -75,13 +75,13 @@ module _ (linker : Linker) (ids list : List ℕ) (copies : List Module) (n : ℕ
               (let place : k ≡ n = last.0 ∙ are.long in
               next m its part (ap (slice_get list) (sym place) ∙ at)
               (ap (slice_get copies) (sym place) ∙ there)
-              (subst (λ (one : Read). IsPartRead one part) (sym last.1) handed))
+              (subst (λ (one : ReadModule). IsPartRead one part) (sym last.1) handed))
         ];
   })
 
 -- where all modules of a list are there, what was found at a place of it is the module there
-module _ (linker : Linker) (list : List ℕ) (known : AreAllKnown linker list) (place : ℕ) (within : place < length list) (found : Option TransformedModule) (finds : (m : ℕ) (its : TransformedModule) → slice_get list place ≡ Some m → IsKnown linker m its → found ≡ Some its) where
-  pub found-known : (m : ℕ) × (its : TransformedModule) × (slice_get list place ≡ Some m) × IsKnown linker m its × (found ≡ Some its)
+module _ (linker : Linker) (list : List ℕ) (known : AreAllKnown linker list) (place : ℕ) (within : place < length list) (found : Option TransformedModule) (finds : (m : ℕ) (its : TransformedModule) → slice_get list place ≡ Some m → IsModuleKnown linker m its → found ≡ Some its) where
+  pub found-known : (m : ℕ) × (its : TransformedModule) × (slice_get list place ≡ Some m) × IsModuleKnown linker m its × (found ≡ Some its)
   found-known =
       let m = there_is list place within in
       let its = known m.0 (held list m.0 place m.1) in
@@ -91,19 +91,19 @@ module _ (linker : Linker) (list : List ℕ) (known : AreAllKnown linker list) (
   pub some-found : found ≡ None → ⊥
   some-found none = let its = found-known in none-some its.1 (sym none ∙ its.4)
 
-  pub found-is : (its : TransformedModule) → found ≡ Some its → (m : ℕ) × (slice_get list place ≡ Some m) × IsKnown linker m its
+  pub found-is : (its : TransformedModule) → found ≡ Some its → (m : ℕ) × (slice_get list place ≡ Some m) × IsModuleKnown linker m its
   found-is its some =
       let is = found-known in
-      (is.0, is.2, subst (IsKnown linker is.0) (same_Some is.1 its (sym is.4 ∙ some)) is.3)
+      (is.0, is.2, subst (IsModuleKnown linker is.0) (same_Some is.1 its (sym is.4 ∙ some)) is.3)
 
 -- modules are linked as they were read
-pub linked-read : {E : Type 0} (linker : Linker) (reads : List Read) (links : List LinkModule)
+pub linked-read : {E : Type 0} (linker : Linker) (reads : List ReadModule) (links : List LinkModule)
     (result : Result Linking E) → AllZip IsLinkRead reads links →
     IfOk result (λ linking. (p : Program) →
-    IsProgramOf p links (numbers_below (length links)) (length links - 1) linker.config.require →
+    IsLinkProgram p links (numbers_below (length links)) (length links - 1) linker.config.require →
     IsLinkingOf p linking) →
     IfOk result (λ linking. (p : Program) →
-    IsProgramOf p links (numbers_below (length links)) (length links - 1) linker.config.require →
+    IsLinkProgram p links (numbers_below (length links)) (length links - 1) linker.config.require →
     HandsOver p (numbers_below (length links)) linking) →
     IfOk result (IsLinkedRead linker reads)
 linked-read linker reads links (Ok linking) each linked handed =
@@ -120,8 +120,8 @@ planned-same g h entry its_entry list its_list plan same same_entry same_list pl
     (subst (λ (l : List ℕ). IsPlanOf g entry l plan) same_list planned))
 
 -- what is merged is made of the modules that were read
-pub made-of-read : (reads : List Read) (linking : Linking) (blocks : List Block) (next : ℕ)
-    (bundle : BundleParts) (result : Result Merged MergeError) → IfOk result (IsMergedAs bundle) →
+pub made-of-read : (reads : List ReadModule) (linking : Linking) (blocks : List Block) (next : ℕ)
+    (bundle : BundleInput) (result : Result MergedModule MergeError) → IfOk result (IsMergedAs bundle) →
     IfOk result (TakesAs bundle) → IsBundleRead reads linking blocks next bundle →
     IfOk result (IsMadeOfRead reads linking blocks next)
 made-of-read reads linking blocks next bundle (Ok merged) made few is =
@@ -129,8 +129,8 @@ made-of-read reads linking blocks next bundle (Ok merged) made few is =
 made-of-read reads linking blocks next bundle (Err error) made few is = tt
 
 -- or nothing is
-pub refused-of-read : (reads : List Read) (linking : Linking) (blocks : List Block) (next : ℕ)
-    (bundle : BundleParts) (result : Result Merged MergeError) → IfErr result (IsRefusedAs bundle) →
+pub refused-of-read : (reads : List ReadModule) (linking : Linking) (blocks : List Block) (next : ℕ)
+    (bundle : BundleInput) (result : Result MergedModule MergeError) → IfErr result (IsRefusedAs bundle) →
     IsBundleRead reads linking blocks next bundle →
     IfErr result (MayRefuseRead reads linking blocks next)
 refused-of-read reads linking blocks next bundle (Ok merged) refused is = tt

@@ -9,7 +9,7 @@ use Rattle.bundle_tree_ast.specs.declared.module.Module.{Module}
 use Rattle.bundle_tree_names.specs.FileName.{name_of, Name as FileName}
 use Rattle.bundle_tree_names.specs.declared.error.Error.{Error}
 use Rattle.bundle_tree_names.specs.declared.error.Error.TheVariants.{OutOfMemory}
-use Rattle.bundle_tree_piece.specs.Item.{Item}
+use Rattle.bundle_syntax.specs.Item.{Item}
 use Rattle.bundle_order_sort.specs.Plan.{IsPlanOf}
 use Rattle.bundle_order_sort.specs.declared.plan.Plan.{Plan}
 use Rattle.bundle_rules.specs.Bundle.{Hooks}
@@ -20,31 +20,31 @@ use Rattle.bundle_rules.specs.Parts.{Owned, Parts, body_of, in_order, items_in, 
 use Rattle.bundle_rules.specs.Program.{Program, IsReached}
 use Rattle.bundle_link.specs.Refusals.{IsTreeRefusal}
 use Rattle.bundle_link.specs.declared.link.Linker.{Linker}
-use Rattle.bundle_link_index.specs.Programs.{IsProgramOf}
+use Rattle.bundle_link_index.specs.Programs.{IsLinkProgram}
 use Rattle.bundle_link_index.specs.declared.target.LinkModule.{LinkModule}
-use Rattle.bundle_link_reached.specs.Judged.{numbers_below}
-use Rattle.bundle_link_reached.proofs.NumberLemmas.{held}
+use Rattle.bundle_link.specs.Judged.{numbers_below}
+use Rattle.bundle_link.proofs.NumberLemmas.{held}
 use Rattle.bundle_link_targets.specs.declared.linking.Linking.{Linking}
-use Rattle.bundle_merge_meaning.specs.joined.Joined.{joined}
-use Rattle.bundle_merge_whole.specs.cleared.Programs.{cleared_program}
-use Rattle.bundle_merge_whole.specs.made.Given.{Answer}
-use Rattle.bundle_merge_whole.proofs.cleared.Cleared.{of-cleared-reached, requested-cleared}
-use Rattle.bundle_merge_whole.specs.planned.Decided.{numbers_from}
+use Rattle.bundle_merge_theory.specs.joined.Joined.{joined_items}
+use Rattle.bundle_merge_theory.specs.cleared.Programs.{cleared_program}
+use Rattle.bundle_merge_theory.specs.made.Given.{HookAnswer}
+use Rattle.bundle_merge_theory.proofs.cleared.Cleared.{of-cleared-reached, requested-cleared}
+use Rattle.bundle_merge_theory.specs.planned.Decided.{numbers_from}
 use Rattle.bundle_merge_names.specs.Bundle.{AreBundleParts}
 use Rattle.bundle_merge_names.specs.Numbers.{position}
 use Rattle.bundle_merge_names.specs.declared.error.MergeError.{MergeError}
 use Rattle.bundle_merge_names.specs.declared.error.MergeError.TheVariants as e
-use Rattle.bundle_merge_names.specs.declared.part.BundleParts.{BundleParts}
-use Rattle.bundle_merge_names.specs.declared.part.Part.{Part}
-use Rattle.bundle_merge_items.specs.Added.{items_of}
-use Rattle.bundle_merge_items.specs.declared.merge.Merged.{Merged}
+use Rattle.bundle_merge_names.specs.declared.part.BundleInput.{BundleInput}
+use Rattle.bundle_merge_names.specs.declared.part.BundleModule.{BundleModule}
+use Rattle.bundle_merge_items.specs.Added.{module_item_lists}
+use Rattle.bundle_merge_items.specs.declared.merge.MergedModule.{MergedModule}
 use Rattle.bundle_merge.specs.Handed.{AreObjectsApart, AreReadFrom, AreReadIn, IsBundleRead, IsLinkRead, IsLinkedRead, IsMadeOfRead, IsPartRead, MayRefuseRead}
-use Rattle.bundle_merge.specs.Placed.{ArePlaced}
+use Rattle.bundle_merge.specs.Placed.{AreReadAndLinked}
 use Rattle.bundle_merge.specs.Prepared.{items_of_each}
 use Rattle.bundle_merge.specs.Read.{own_list}
 use Rattle.bundle_merge.specs.Ready.{IsMergeable, IsMergedAs, IsRefusedAs, TakesAs}
 use Rattle.bundle_merge.specs.Refusals.{IsRefusalOfRead, MayLackNames}
-use Rattle.bundle_merge.specs.declared.read.Read.{Read}
+use Rattle.bundle_merge.specs.declared.read.ReadModule.{ReadModule}
 use Rattle.bundle_merge.proofs.Bundle as bundles
 use Rattle.bundle_merge.proofs.Bundle.{IsReadBundle}
 use Rattle.bundle_merge.proofs.Objects.{AnswersFit}
@@ -60,30 +60,30 @@ zip-back R (x ∷ xs) [] zip k y at = absurd zip
 zip-back R (x ∷ xs) (z ∷ ys) zip zero y at = (x, refl, subst (R x) (same_Some z y at) zip.0)
 zip-back R (x ∷ xs) (z ∷ ys) zip (suc k) y at = zip-back R xs ys zip.1 k y at
 
-module _ (p : Program) (hooks : Hooks) (local : ℕ → ℕ) (linker : Linker) (next : ℕ) (reads : List Read) (its : AreReadIn p hooks linker local next reads) (linking : Linking) (links : IsLinkedRead linker reads linking) (plan : Plan) (planned : IsPlanOf linker.linked.graph linker.entry linker.linked.list.items plan) (bundle : BundleParts) (b : IsBundleRead reads linking plan.blocks.items next bundle) where
+module _ (p : Program) (hooks : Hooks) (local : ℕ → ℕ) (linker : Linker) (next : ℕ) (reads : List ReadModule) (its : AreReadIn p hooks linker local next reads) (linking : Linking) (links : IsLinkedRead linker reads linking) (plan : Plan) (planned : IsPlanOf linker.linked.graph linker.entry linker.linked.list.items plan) (bundle : BundleInput) (b : IsBundleRead reads linking plan.blocks.items next bundle) where
   abbrev list : List ℕ
   list = linker.linked.list.items
 
-  part-read : (k : ℕ) (part : Part) → slice_get bundle.parts.now k ≡ Some part →
-      (read : Read) × (slice_get reads k ≡ Some read) × IsPartRead read part
+  part-read : (k : ℕ) (part : BundleModule) → slice_get bundle.parts.now k ≡ Some part →
+      (read : ReadModule) × (slice_get reads k ≡ Some read) × IsPartRead read part
   part-read k part at = zip-back IsPartRead reads bundle.parts.now b.parts k part at
 
   link-read : (k : ℕ) (link : LinkModule) → slice_get links.links k ≡ Some link →
-      (read : Read) × (slice_get reads k ≡ Some read) × IsLinkRead read link
+      (read : ReadModule) × (slice_get reads k ≡ Some read) × IsLinkRead read link
   link-read k link at = zip-back IsLinkRead reads links.links links.each k link at
 
-  same-read : (k : ℕ) (link : LinkModule) (part : Part) → slice_get links.links k ≡ Some link →
+  same-read : (k : ℕ) (link : LinkModule) (part : BundleModule) → slice_get links.links k ≡ Some link →
       slice_get bundle.parts.now k ≡ Some part →
       (link.tables.now ≡ part.tables.now) × (link.leads.now ≡ part.leads.now)
   same-read k link part at there =
       let one = link-read k link at in
       let two = part-read k part there in
       let same : one.0 ≡ two.0 = same_Some one.0 two.0 (sym one.1 ∙ two.1) in (
-        one.2.tables ∙ ap (λ (read : Read). read.tables) same ∙ sym two.2.tables,
-        one.2.leads ∙ ap (λ (read : Read). read.leads) same ∙ sym two.2.leads,
+        one.2.tables ∙ ap (λ (read : ReadModule). read.tables) same ∙ sym two.2.tables,
+        one.2.leads ∙ ap (λ (read : ReadModule). read.leads) same ∙ sym two.2.leads,
       )
 
-  are : ArePlaced p list links.links bundle.parts.now
+  are : AreReadAndLinked p list links.links bundle.parts.now
   are = record {
     long_links = AllZip-long IsLinkRead reads links.links links.each ∙ its.long;
     long = AllZip-long IsPartRead reads bundle.parts.now b.parts ∙ its.long;
@@ -110,7 +110,7 @@ module _ (p : Program) (hooks : Hooks) (local : ℕ → ℕ) (linker : Linker) (
     apart = its.apart;
   }
 
-  program : IsProgramOf (places.by_place p list its.right links.links bundle.parts.now are)
+  program : IsLinkProgram (places.by_place p list its.right links.links bundle.parts.now are)
       links.links (numbers_below (length links.links)) (length links.links - 1)
       linker.config.require
   program =
@@ -124,8 +124,8 @@ module _ (p : Program) (hooks : Hooks) (local : ℕ → ℕ) (linker : Linker) (
   begun = subst (λ entry. IsPlanOf linker.linked.graph entry list plan) (sym its.begins) planned
 
   -- what is merged of it
-  pub merged-read : (merged : Merged) → IsMergedAs bundle merged →
-      IsMerged (λ x. x) local p hooks (joined (items_of merged.«module»))
+  pub merged-read : (merged : MergedModule) → IsMergedAs bundle merged →
+      IsMerged (λ x. x) local p hooks (joined_items (module_item_lists merged.tree))
   merged-read merged made =
       bundles.is-merged p list its.right links.links bundle.parts.now are linking
       (links.linked q program) (links.handed q program) linker.linked.graph its.graph plan begun
@@ -149,7 +149,7 @@ module _ (p : Program) (hooks : Hooks) (local : ℕ → ℕ) (linker : Linker) (
       (refused q (numbers_from zero (length list)) its.answers are-parts))
 
   -- also where all are taken
-  pub all-read : (merged : Merged) → TakesAs bundle merged →
+  pub all-read : (merged : MergedModule) → TakesAs bundle merged →
       position merged.contexts ≡ 4294967296 → NeedsTooManyContexts p hooks next
   all-read merged takes full =
       subst (NeedsTooManyContexts p hooks) b.contexts
@@ -159,14 +159,14 @@ module _ (p : Program) (hooks : Hooks) (local : ℕ → ℕ) (linker : Linker) (
       (takes q (numbers_from zero (length list)) its.answers are-parts) full)
 
 -- the same of what was made of it, or why nothing was
-module _ (p : Program) (hooks : Hooks) (local : ℕ → ℕ) (linker : Linker) (next : ℕ) (reads : List Read) (its : AreReadIn p hooks linker local next reads) (linking : Linking) (links : IsLinkedRead linker reads linking) (plan : Plan) (planned : IsPlanOf linker.linked.graph linker.entry linker.linked.list.items plan) where
-  pub made-read : (merged : Merged) → IsMadeOfRead reads linking plan.blocks.items next merged →
-      IsMerged (λ x. x) local p hooks (joined (items_of merged.«module»))
+module _ (p : Program) (hooks : Hooks) (local : ℕ → ℕ) (linker : Linker) (next : ℕ) (reads : List ReadModule) (its : AreReadIn p hooks linker local next reads) (linking : Linking) (links : IsLinkedRead linker reads linking) (plan : Plan) (planned : IsPlanOf linker.linked.graph linker.entry linker.linked.list.items plan) where
+  pub made-read : (merged : MergedModule) → IsMadeOfRead reads linking plan.blocks.items next merged →
+      IsMerged (λ x. x) local p hooks (joined_items (module_item_lists merged.tree))
   made-read merged made =
       merged-read p hooks local linker next reads its linking links plan planned made.bundle
       made.read merged made.made
 
-  pub taken-read : (merged : Merged) → IsMadeOfRead reads linking plan.blocks.items next merged →
+  pub taken-read : (merged : MergedModule) → IsMadeOfRead reads linking plan.blocks.items next merged →
       position merged.contexts ≡ 4294967296 → NeedsTooManyContexts p hooks next
   taken-read merged made full =
       all-read p hooks local linker next reads its linking links plan planned made.bundle made.read
@@ -203,32 +203,32 @@ module _ (p : Program) (hooks : Hooks) (contexts : ℕ → Contexts) (next : ℕ
   is-reached : (k m : ℕ) → slice_get all k ≡ Some m → IsReached p m
   is-reached k m at = (w.of.linked.reached m).0 (held all m k at)
 
-  module _ (copies : List Module) (copied : map items_of copies ≡ items_of_each (in_order prepared) all) where
+  module _ (copies : List Module) (copied : map module_item_lists copies ≡ items_of_each (in_order prepared) all) where
     -- there are as many copies as modules
     pub long-copies : length copies ≡ length all
     long-copies =
-        sym (length-map copies items_of) ∙ ap length copied
+        sym (length-map copies module_item_lists) ∙ ap length copied
         ∙ length-map all (items_in (in_order prepared))
 
     -- the copies at a place are of its module
     copy-at : (k m : ℕ) → slice_get all k ≡ Some m →
         (its : Module) × (slice_get copies k ≡ Some its)
-        × (items_of its ≡ items_in (in_order prepared) m)
+        × (module_item_lists its ≡ items_in (in_order prepared) m)
     copy-at k m at =
-        let here : option_map items_of (slice_get copies k)
+        let here : option_map module_item_lists (slice_get copies k)
         ≡ Some (items_in (in_order prepared) m) =
-        sym (slice_get-map items_of copies k) ∙ ap (λ l. slice_get l k) copied
+        sym (slice_get-map module_item_lists copies k) ∙ ap (λ l. slice_get l k) copied
         ∙ slice_get-map (items_in (in_order prepared)) all k
         ∙ ap (option_map (items_in (in_order prepared))) at in
         by (slice_get copies k) refl here
       where
         by : (o : Option Module) → slice_get copies k ≡ o →
-            option_map items_of o ≡ Some (items_in (in_order prepared) m) →
+            option_map module_item_lists o ≡ Some (items_in (in_order prepared) m) →
             (its : Module) × (slice_get copies k ≡ Some its)
-            × (items_of its ≡ items_in (in_order prepared) m)
+            × (module_item_lists its ≡ items_in (in_order prepared) m)
         by None there e = absurd (none-some (items_in (in_order prepared) m) e)
         by (Some its) there e =
-            (its, there, same_Some (items_of its) (items_in (in_order prepared) m) e)
+            (its, there, same_Some (module_item_lists its) (items_in (in_order prepared) m) e)
 
     -- no fault of theirs is told
     pub memory-alone : (error : Error) → IsRefusalOfRead linker all copies error →
@@ -242,14 +242,14 @@ module _ (p : Program) (hooks : Hooks) (contexts : ℕ → Contexts) (next : ℕ
         none-told file (own_list its.items.body.items) error
         (ready.own-faultless p hooks contexts next prepared linker w prepares fits its.number
         (is-reached its.place its.number its.at) its.items.body.items
-        (sym (ap items_of same) ∙ copy.2) file
+        (sym (ap module_item_lists same) ∙ copy.2) file
         (ready.known-faultless p hooks contexts next prepared linker w prepares fits its.number its.known
         its.is_known))
         its.told
 
-    module _ (reads : List Read) (from : AreReadFrom linker all all copies (length all) reads) where
+    module _ (reads : List ReadModule) (from : AreReadFrom linker all all copies (length all) reads) where
       -- what is told of what stands in front of them
-      abbrev answers : ℕ → Option Answer
+      abbrev answers : ℕ → Option HookAnswer
       answers k = (ready.told-at p hooks contexts next prepared linker w prepares fits k).0
 
       abbrev tells : (k : ℕ) →
@@ -300,5 +300,5 @@ flat-owned m [] = refl
 flat-owned m (item ∷ items) = ap (λ l. item ++ l) (flat-owned m items)
 
 pub body-joined : (m : ℕ) (items : List (List Item)) →
-    body_of (parts_of m items) ≡ joined items
+    body_of (parts_of m items) ≡ joined_items items
 body-joined m items = ap tree_of_items (flat-owned m items)

@@ -1,33 +1,33 @@
 -- What is made of the modules of a program by their places is merged right for the program, with the contexts that
 -- its modules have.
 use Rattle.std.proofs.Common.{◌≡◌, ℕ, zero, Bool, List, [], Option, length, map, refl}
-use Rattle.bundle_tree_piece.specs.Item.{Item}
+use Rattle.bundle_syntax.specs.Item.{Item}
 use Rattle.bundle_order_graph.specs.Modules.{Modules}
 use Rattle.bundle_order_sort.specs.Plan.{IsPlanOf}
 use Rattle.bundle_order_sort.specs.declared.plan.Plan.{Plan}
 use Rattle.bundle_rules.specs.Bundle.{Cause, Hooks}
 use Rattle.bundle_rules.specs.Merged.{IsMerged}
 use Rattle.bundle_rules.specs.Program.{Program, IsReached}
-use Rattle.bundle_link_reached.specs.Alike.{IsAt}
+use Rattle.bundle_link.specs.Alike.{IsModuleAt}
 use Rattle.bundle_link_targets.specs.declared.linking.Linking.{Linking}
-use Rattle.bundle_merge_meaning.specs.joined.Joined.{joined}
-use Rattle.bundle_merge_whole.specs.composed.Noted.{pairing_of}
-use Rattle.bundle_merge_whole.specs.planned.Blocks.{block_of}
-use Rattle.bundle_merge_whole.specs.planned.Decided.{Decided, index_of, plan_of, numbers_from}
-use Rattle.bundle_merge_whole.specs.planned.Placed.{id_at}
-use Rattle.bundle_merge_whole.specs.made.Given.{Answer, Contexts, TopOf}
-use Rattle.bundle_merge_whole.specs.made.Made.{AreMade}
-use Rattle.bundle_merge_whole.specs.made.Alone.{TellApart}
-use Rattle.bundle_merge_whole.specs.moved.Renumbered.{cause_at}
-use Rattle.bundle_merge_whole.specs.sound.Known.{AreKnown, IsByPlaces}
-use Rattle.bundle_merge_whole.specs.sound.Decided.{AreLinkedBy, decided_by}
-use Rattle.bundle_merge_whole.proofs.laid.Laid.{are-laid}
-use Rattle.bundle_merge_whole.proofs.moved.Made.{made-by}
-use Rattle.bundle_merge_whole.proofs.moved.Moved.{merged-by, places-renamed}
-use Rattle.bundle_merge_whole.proofs.moved.Owed.{AreMoved, IsMergedBy}
-use Rattle.bundle_merge_whole.proofs.sound.Decided.{decided}
-use Rattle.bundle_merge_whole.proofs.sound.Sound.{sound}
-use Rattle.bundle_merge_whole.proofs.together.End.{made-alone}
+use Rattle.bundle_merge_theory.specs.joined.Joined.{joined_items}
+use Rattle.bundle_merge_theory.specs.composed.Noted.{pairing_of}
+use Rattle.bundle_merge_theory.specs.planned.Blocks.{block_of}
+use Rattle.bundle_merge_theory.specs.planned.Decided.{Decided, index_of, plan_of, numbers_from}
+use Rattle.bundle_merge_theory.specs.planned.Placed.{id_at}
+use Rattle.bundle_merge_theory.specs.made.Given.{HookAnswer, BundleContexts, TopOf}
+use Rattle.bundle_merge_theory.specs.made.Made.{AreMade}
+use Rattle.bundle_merge_theory.specs.made.Alone.{TellApart}
+use Rattle.bundle_merge_theory.specs.moved.Renumbered.{cause_at}
+use Rattle.bundle_merge_theory.specs.sound.Known.{AreKnown, IsByPlaces}
+use Rattle.bundle_merge_theory.specs.sound.Decided.{AreTablesLinked, decided_by}
+use Rattle.bundle_merge_theory.proofs.laid.Laid.{are-laid}
+use Rattle.bundle_merge_theory.proofs.moved.Made.{made-by}
+use Rattle.bundle_merge_theory.proofs.moved.Moved.{merged-by, places-renamed}
+use Rattle.bundle_merge_theory.proofs.moved.Owed.{AreMoved, IsMergedBy}
+use Rattle.bundle_merge_theory.proofs.sound.Decided.{decided}
+use Rattle.bundle_merge_theory.proofs.sound.Sound.{sound}
+use Rattle.bundle_merge_theory.proofs.together.End.{made-alone}
 
 -- what a merge owes is that the tree is merged right
 pub merged-owed : (local : ℕ → ℕ) (p : Program) (hooks : Hooks) (plan : List Cause)
@@ -47,7 +47,7 @@ merged-owed local p hooks plan tree its =
       called = its.called;
     }
 
-module _ (p q : Program) (ids : List ℕ) (g : Modules) (places : IsByPlaces p q ids g) (known : AreKnown p q ids) (moved : AreMoved p q ids) (linking : Linking) (meta : ℕ → Bool) (count : ℕ → ℕ) (linked : AreLinkedBy q (length ids) linking meta count) (plan : Plan) (planned : IsPlanOf g p.entry ids plan) (hooks : Hooks) (context : Contexts) (answers : ℕ → Option Answer) where
+module _ (p q : Program) (ids : List ℕ) (g : Modules) (places : IsByPlaces p q ids g) (known : AreKnown p q ids) (moved : AreMoved p q ids) (linking : Linking) (meta : ℕ → Bool) (count : ℕ → ℕ) (linked : AreTablesLinked q (length ids) linking meta count) (plan : Plan) (planned : IsPlanOf g p.entry ids plan) (hooks : Hooks) (context : BundleContexts) (answers : ℕ → Option HookAnswer) where
   -- modules by their places
   abbrev places_of : List ℕ
   places_of = numbers_from zero (length ids)
@@ -59,7 +59,7 @@ module _ (p q : Program) (ids : List ℕ) (g : Modules) (places : IsByPlaces p q
   pub made-merged : (orders : List (List ℕ)) (items : List (List Item)) →
       AreMade q hooks places_of context answers d orders items → TellApart q answers context →
       (local : ℕ → ℕ) → ((k : ℕ) → IsReached q k → context (TopOf k) ≡ local (id_at ids k)) →
-      IsMerged (λ x. x) local p hooks (joined items)
+      IsMerged (λ x. x) local p hooks (joined_items items)
   made-merged orders items made apart local locals =
       let its = sound p q ids known in
       let is = decided p q ids g places linking meta count linked plan planned in
@@ -69,7 +69,7 @@ module _ (p q : Program) (ids : List ℕ) (g : Modules) (places : IsByPlaces p q
       let owed =
       made-by q hooks places_of context answers (plan_of d orders) items its apart laid.alone
       laid.due laid.once (λ k. context (TopOf k)) (λ k reached. refl) [] (laid.laid []) in
-      merged-owed local p hooks (map (cause_at ids) (plan_of d orders)) (joined items)
-      (merged-by q p (λ k m. IsAt ids m k) (id_at ids) (λ m. index_of m ids)
-      (places-renamed p q ids moved) hooks (plan_of d orders) (joined items)
+      merged-owed local p hooks (map (cause_at ids) (plan_of d orders)) (joined_items items)
+      (merged-by q p (λ k m. IsModuleAt ids m k) (id_at ids) (λ m. index_of m ids)
+      (places-renamed p q ids moved) hooks (plan_of d orders) (joined_items items)
       (λ k. context (TopOf k)) local owed.owed owed.reached locals)

@@ -8,8 +8,8 @@ use Rattle.std.proofs.lemmas.Option.{none-some, same_Some, slice_get-map}
 use Rattle.bundle_tree_names.specs.FileName.{Name as FileName}
 use Rattle.bundle_tree_ast.specs.declared.expr.Expr.{Expr}
 use Rattle.bundle_tree_ast.specs.declared.prop.KeyValueProp.{KeyValueProp}
-use Rattle.bundle_tree_piece.specs.Item as h
-use Rattle.bundle_tree_piece.specs.Item.{Item}
+use Rattle.bundle_syntax.specs.Item as h
+use Rattle.bundle_syntax.specs.Item.{Item}
 use Rattle.bundle_rules.specs.Bundle.{Hooks, properties_tree}
 use Rattle.bundle_rules.specs.Cleared.{cleared}
 use Rattle.bundle_rules.specs.Contexts.{may_have_context}
@@ -20,21 +20,21 @@ use Rattle.bundle_rules.specs.Merged.{IsMetaItem}
 use Rattle.bundle_rules.specs.Places.{Occurrence, occurrences, start}
 use Rattle.bundle_rules.specs.Program.{Program}
 use Rattle.bundle_rules.specs.Scopes.{Es, Inner, ScopeKind}
-use Rattle.bundle_scope_renamed.specs.fit.Fits.{AreEach, AreFit, ended, next}
-use Rattle.bundle_scope_renamed.specs.fit.Sorts.{AProperty, Many, slot}
-use Rattle.bundle_scope_renamed.proofs.fit.Rows.{last_each}
-use Rattle.bundle_scope_renamed.proofs.grown.Grown.{key_value_prop_fit}
-use Rattle.bundle_scope_renamed.proofs.kept.Theorem.{cleared-twice}
+use Rattle.bundle_scope_names.specs.fit.Fits.{AreEach, AreFit, ended, next}
+use Rattle.bundle_scope_names.specs.fit.Sorts.{AProperty, Many, slot}
+use Rattle.bundle_scope_names.proofs.fit.Rows.{last_each}
+use Rattle.bundle_scope_names.proofs.grown.Grown.{key_value_prop_fit}
+use Rattle.bundle_scope_names.proofs.naming_rule.Theorem.{cleared-twice}
 use Rattle.bundle_link_index.proofs.ProgramLemmas.{map_back}
-use Rattle.bundle_link_reached.proofs.NumberLemmas.{held}
-use Rattle.bundle_link_reached.proofs.ProgramLemmas.{mapped}
-use Rattle.bundle_merge_meaning.specs.walked.Names.{names_of}
-use Rattle.bundle_merge_meaning.proofs.walked.Clearing.{cleared-append}
-use Rattle.bundle_merge_meaning.proofs.walked.NameLemmas.{names_of-append}
-use Rattle.bundle_merge_whole.proofs.answered.Resolving.{resolved-cleared}
-use Rattle.bundle_merge_whole.proofs.answered.Rewritten.{idents_from}
-use Rattle.bundle_merge_whole.proofs.fit.Clearing.{fit_cleared}
-use Rattle.bundle_merge_whole.proofs.function.Given.{fit_given}
+use Rattle.bundle_link.proofs.NumberLemmas.{held}
+use Rattle.bundle_link.proofs.NumberedModuleLemmas.{mapped}
+use Rattle.bundle_merge_theory.specs.walked.Names.{idents_among}
+use Rattle.bundle_merge_theory.proofs.walked.Clearing.{cleared-append}
+use Rattle.bundle_merge_theory.proofs.walked.NameLemmas.{names_of-append}
+use Rattle.bundle_merge_theory.proofs.answered.Resolving.{resolved-cleared}
+use Rattle.bundle_merge_theory.proofs.answered.Rewritten.{idents_from}
+use Rattle.bundle_merge_theory.proofs.fit.Clearing.{fit_cleared}
+use Rattle.bundle_merge_theory.proofs.function.Given.{fit_given}
 use Rattle.bundle_merge.specs.Ready.{Answering, hooks_by, listed_properties}
 
 -- a hook answers properties
@@ -56,7 +56,7 @@ answers-fit given file is_entry answer may =
 -- ---- names
 -- a name that is listed stands there
 stands-named : (items : List Item) (i : ℕ) (ident : Ident) →
-    slice_get (names_of items) i ≡ Some ident →
+    slice_get (idents_among items) i ≡ Some ident →
     (o : Occurrence) × Contains (occurrences items) o × (ident_of o ≡ ident)
 stands-named items i ident at =
     let it =
@@ -67,7 +67,7 @@ stands-named items i ident at =
 -- and the other way round
 named-stands : (items : List Item) (i : ℕ) (o : Occurrence) →
     slice_get (occurrences items) i ≡ Some o →
-    slice_get (names_of items) i ≡ Some (ident_of o)
+    slice_get (idents_among items) i ≡ Some (ident_of o)
 named-stands items i o at =
     ap (λ l. slice_get l i) (sym (idents_from start items))
     ∙ slice_get-map ident_of (occurrences items) i ∙ ap (option_map ident_of) at
@@ -108,8 +108,8 @@ module _ {p : Program} {hooks : Hooks} {m : ℕ} {item : List Item} (its : IsMet
       its.properties answered-is
 
   -- its names are its own and those in the properties
-  names-are : names_of item ≡ (codes "importMeta", its.ctxt) ∷ names_of (its.properties ++ closing)
-  names-are = ap names_of its.is
+  names-are : idents_among item ≡ (codes "importMeta", its.ctxt) ∷ idents_among (its.properties ++ closing)
+  names-are = ap idents_among its.is
 
   -- the context of its own stands in it
   pub name-stands : (o : Occurrence) × Contains (occurrences item) o × (o.ctxt ≡ its.ctxt)
@@ -131,8 +131,8 @@ module _ {p : Program} {hooks : Hooks} {m : ℕ} {item : List Item} (its : IsMet
     -- which are none of its own
     pub inside-other : o.ctxt ≢ its.ctxt
     inside-other same =
-        let listed : names_of (its.properties ++ closing) ≡ names_of its.properties =
-        names_of-append its.properties closing ∙ append-nil (names_of its.properties) in
+        let listed : idents_among (its.properties ++ closing) ≡ idents_among its.properties =
+        names_of-append its.properties closing ∙ append-nil (idents_among its.properties) in
         let it =
         stands-named its.properties i (ident_of o)
         (ap (λ l. slice_get l i) (sym listed)

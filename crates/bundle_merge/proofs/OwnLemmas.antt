@@ -4,15 +4,15 @@ use Rattle.std.specs.Prelude.{is_some, option_map, if◌then◌else◌}
 use Rattle.std.proofs.lemmas.Bool.{false≢true}
 use Rattle.std.proofs.lemmas.Option.{none-some}
 use Rattle.bundle_tree_ast.specs.declared.module.ModuleItem.{ModuleItem}
-use Rattle.bundle_tree_piece.specs.declared.piece.Piece.{Piece}
-use Rattle.bundle_tree_piece.specs.Item as h
-use Rattle.bundle_tree_piece.specs.Item.{Item, item_of}
+use Rattle.bundle_syntax.specs.declared.piece.Piece.{Piece}
+use Rattle.bundle_syntax.specs.Item as h
+use Rattle.bundle_syntax.specs.Item.{Item, item_of}
 use Rattle.bundle_tree_listed.specs.Tree.{module_item_items, node}
 use Rattle.bundle_tree_places.specs.Marks.{ident_of}
 use Rattle.bundle_tree_places.specs.declared.mark.Name.{Name}
 use Rattle.bundle_rules.specs.Entries.{has_import_meta}
 use Rattle.bundle_rules.specs.Idents.{Ident}
-use Rattle.bundle_merge.specs.Read.{first_declared, held_by, list_of, own_list, without_front}
+use Rattle.bundle_merge.specs.Read.{first_declared, name_held, item_list, own_list, without_front}
 
 -- what follows as many elements as a list has that stands in front
 drop-front : (front all : List Piece) (xs ys : List Item) → map item_of front ≡ xs →
@@ -29,28 +29,28 @@ drop-front (p ∷ front) (q ∷ all) (x ∷ xs) ys is whole =
 
 -- the list of a module's own items, where this is the list of all, and this that of the first
 module _ (all front : List Piece) where
-  behind-first : (items : List ModuleItem) → map item_of all ≡ list_of items →
-      (b : Bool) → map item_of front ≡ list_of (if b then take 1 items else []) →
-      (held : Option Ident) → first_declared (list_of (if b then take 1 items else [])) ≡ held →
+  behind-first : (items : List ModuleItem) → map item_of all ≡ item_list items →
+      (b : Bool) → map item_of front ≡ item_list (if b then take 1 items else []) →
+      (held : Option Ident) → first_declared (item_list (if b then take 1 items else [])) ≡ held →
       (own : ℕ) → (held ≡ None → own ≡ 0) → ((name : Ident) → held ≡ Some name → own ≡ length front) →
-      map item_of (drop own all) ≡ list_of (without_front held items)
+      map item_of (drop own all) ≡ item_list (without_front held items)
   behind-first items is b its None held own none some =
       ap (λ n. map item_of (drop n all)) (none refl) ∙ is
   behind-first items is false its (Some name) held own none some = absurd (none-some name held)
   behind-first [] is true its (Some name) held own none some = absurd (none-some name held)
   behind-first (item ∷ items) is true its (Some name) held own none some =
       ap (λ n. map item_of (drop n all)) (some name refl)
-      ∙ drop-front front all (module_item_items 0 item) (list_of items)
+      ∙ drop-front front all (module_item_items 0 item) (item_list items)
       (its ∙ append-nil (module_item_items 0 item)) is
 
-  pub own-behind : (items : List ModuleItem) → map item_of all ≡ list_of items →
-      map item_of front ≡ list_of (if has_import_meta (list_of items) then take 1 items else []) →
-      (own : ℕ) → (held_by items ≡ None → own ≡ 0) →
-      ((name : Ident) → held_by items ≡ Some name → own ≡ length front) →
+  pub own-behind : (items : List ModuleItem) → map item_of all ≡ item_list items →
+      map item_of front ≡ item_list (if has_import_meta (item_list items) then take 1 items else []) →
+      (own : ℕ) → (name_held items ≡ None → own ≡ 0) →
+      ((name : Ident) → name_held items ≡ Some name → own ≡ length front) →
       node 0 h.Module (map item_of (drop own all)) ≡ own_list items
   own-behind items is its own none some =
       ap (node 0 h.Module)
-      (behind-first items is (has_import_meta (list_of items)) its (held_by items) refl own none some)
+      (behind-first items is (has_import_meta (item_list items)) its (name_held items) refl own none some)
 
 -- a name that is there has an identifier
 pub no-name : (name : Option Name) → option_map ident_of name ≡ None → is_some name ≡ true → ⊥

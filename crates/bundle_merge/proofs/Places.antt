@@ -6,7 +6,7 @@ use Rattle.std.specs.Option.{option_and_then}
 use Rattle.std.proofs.lemmas.Option.{none-some, same_Some, slice_get_within}
 use Rattle.std.specs.BTreeMap.{get_by_text}
 use Rattle.bundle_tree_names.specs.FileName.{Name as FileName}
-use Rattle.bundle_tree_piece.specs.Item.{Item}
+use Rattle.bundle_syntax.specs.Item.{Item}
 use Rattle.bundle_order_sort.proofs.OnceLemmas.{IsOnce as IsOnceBehind}
 use Rattle.bundle_order_graph.specs.Modules.{Modules, deps}
 use Rattle.bundle_order_graph.specs.Walks.{along, itself}
@@ -21,34 +21,34 @@ use Rattle.bundle_rules.specs.Program.{Loaded, Program, requested, tree_of, IsRe
 use Rattle.bundle_rules.specs.Tables.{TellsCommonJs}
 use Rattle.bundle_rules.proofs.FaultLemmas as faults
 use Rattle.bundle_link_index.specs.Leads.{leads_from as by_lead, required_of}
-use Rattle.bundle_link_index.specs.Numbered.{IsOnce}
+use Rattle.bundle_link_index.specs.Numbered.{HasNoDoubles}
 use Rattle.bundle_link_index.specs.Programs as i
 use Rattle.bundle_link_index.specs.Said.{HasEachOnce}
 use Rattle.bundle_link_index.specs.declared.target.LinkModule.{LinkModule}
 use Rattle.bundle_link_targets.specs.Meant.{AreModules, IsModuleTree}
-use Rattle.bundle_link_reached.specs.Alike.{IsAlike, IsAt}
-use Rattle.bundle_link_reached.specs.Default.{DeclaresDefaultAlone}
-use Rattle.bundle_link_reached.specs.Judged.{HasNoDoubled, IsReadable, numbers_below}
-use Rattle.bundle_link_reached.specs.Leads.{place_in}
-use Rattle.bundle_link_reached.proofs.AlikeLemmas.{flip, reached_on}
-use Rattle.bundle_link_reached.proofs.FaultLemmas.{fault_on}
-use Rattle.bundle_link_reached.proofs.MeantLemmas.{namespace_meant}
-use Rattle.bundle_link_reached.proofs.NumberLemmas.{got, held}
-use Rattle.bundle_link_reached.proofs.NumbersLemmas.{there_is}
-use Rattle.bundle_link_reached.proofs.OrderLemmas.{entry_last}
-use Rattle.bundle_link_reached.proofs.PlaceLemmas.{no-tree}
-use Rattle.bundle_link_reached.proofs.PlacedLemmas.{IsPlaced, is_alike, placed, same_tree}
-use Rattle.bundle_link_reached.proofs.ProgramLemmas.{table_at}
-use Rattle.bundle_link_reached.proofs.RequestLemmas.{requests_to}
-use Rattle.bundle_link_reached.proofs.ToldLemmas.{all_below, are_modules, only_below}
+use Rattle.bundle_link.specs.Alike.{IsAlike, IsModuleAt}
+use Rattle.bundle_link.specs.Default.{DeclaresDefaultAlone}
+use Rattle.bundle_link.specs.Judged.{HasNoDoubled, AreTreesReadable, numbers_below}
+use Rattle.bundle_link.specs.Leads.{module_place}
+use Rattle.bundle_link.proofs.AlikeLemmas.{flip, reached_on}
+use Rattle.bundle_link.proofs.FaultLemmas.{fault_on}
+use Rattle.bundle_link.proofs.MeantLemmas.{namespace_meant}
+use Rattle.bundle_link.proofs.NumberLemmas.{got, held}
+use Rattle.bundle_link.proofs.NumbersLemmas.{there_is}
+use Rattle.bundle_link.proofs.OrderLemmas.{entry_last}
+use Rattle.bundle_link.proofs.PlaceLemmas.{no-tree}
+use Rattle.bundle_link.proofs.PlacedLemmas.{IsPlaced, is_alike, placed, same_tree}
+use Rattle.bundle_link.proofs.NumberedModuleLemmas.{table_at}
+use Rattle.bundle_link.proofs.RequestLemmas.{requests_to}
+use Rattle.bundle_link.proofs.ToldLemmas.{all_below, are_modules, only_below}
 use Rattle.bundle_link.proofs.ClearedTables.{cleared-once}
-use Rattle.bundle_merge_whole.specs.sound.Known.{AreKnown, IsByPlaces}
-use Rattle.bundle_merge_whole.proofs.moved.Owed.{AreMoved}
-use Rattle.bundle_merge_whole.proofs.moved.Places.{placed-moved}
-use Rattle.bundle_merge_whole.proofs.planned.RequestLemmas.{list-once, list-reached}
+use Rattle.bundle_merge_theory.specs.sound.Known.{AreKnown, IsByPlaces}
+use Rattle.bundle_merge_theory.proofs.moved.Owed.{AreMoved}
+use Rattle.bundle_merge_theory.proofs.moved.Places.{placed-moved}
+use Rattle.bundle_merge_theory.proofs.planned.RequestLemmas.{list-once, list-reached}
 use Rattle.bundle_merge_names.specs.Bundle.{list_of_part}
-use Rattle.bundle_merge_names.specs.declared.part.Part.{Part}
-use Rattle.bundle_merge.specs.Placed.{AreRight, ArePlaced}
+use Rattle.bundle_merge_names.specs.declared.part.BundleModule.{BundleModule}
+use Rattle.bundle_merge.specs.Placed.{AreModulesRight, AreReadAndLinked}
 use Rattle.bundle_merge.proofs.Faultless.{faultless-program}
 
 last-there : (before : List ℕ) (x : ℕ) → slice_get (before ++ x ∷ []) (length before) ≡ Some x
@@ -60,7 +60,7 @@ last-length [] x = refl
 last-length (y ∷ before) x = ap suc (last-length before x)
 
 -- a list in which none stands again behind it has each at one place
-pub one-place : (xs : List ℕ) → IsOnceBehind xs → IsOnce xs
+pub one-place : (xs : List ℕ) → IsOnceBehind xs → HasNoDoubles xs
 one-place [] once i j x e f = absurd (none-some x e)
 one-place (a ∷ xs) once zero zero x e f = refl
 one-place (a ∷ xs) once zero (suc j) x e f =
@@ -69,7 +69,7 @@ one-place (a ∷ xs) once (suc i) zero x e f =
     absurd (once.0 (subst (Contains xs) (sym (same_Some a x f)) (held xs x i e)))
 one-place (a ∷ xs) once (suc i) (suc j) x e f = ap suc (one-place xs once.1 i j x e f)
 
-module _ (p : Program) (list : List ℕ) (right : AreRight p list) (links : List LinkModule) (parts : List Part) (are : ArePlaced p list links parts) where
+module _ (p : Program) (list : List ℕ) (right : AreModulesRight p list) (links : List LinkModule) (parts : List BundleModule) (are : AreReadAndLinked p list links parts) where
   abbrev end : ℕ
   end = length links - 1
 
@@ -83,7 +83,7 @@ module _ (p : Program) (list : List ℕ) (right : AreRight p list) (links : List
   reached : (m : ℕ) → Contains list m ↔ IsReached p m
   reached m = list-reached p list right.is_list m
 
-  pub once : IsOnce list
+  pub once : HasNoDoubles list
   once = one-place list (list-once p list right.is_list)
 
   -- no fault is there
@@ -97,13 +97,13 @@ module _ (p : Program) (list : List ℕ) (right : AreRight p list) (links : List
       there_is links k (let within = slice_get_within list k m at in omega (arith, within, are.long_links))
 
   pub part-at : (k m : ℕ) → slice_get list k ≡ Some m →
-      (part : Part) × (slice_get parts k ≡ Some part)
+      (part : BundleModule) × (slice_get parts k ≡ Some part)
   part-at k m at =
       there_is parts k (let within = slice_get_within list k m at in omega (arith, within, are.long))
 
   leads-from : (k m : ℕ) (s : Text) → slice_get list k ≡ Some m →
       Contains (requests_in p.settings (tree_of p m)) s →
-      required_of links k s ≡ option_and_then (place_in list) (p.leads m s)
+      required_of links k s ≡ option_and_then (module_place list) (p.leads m s)
   leads-from k m s at asked =
       let link = link-at k m at in
       let part = part-at k m at in
@@ -130,7 +130,7 @@ module _ (p : Program) (list : List ℕ) (right : AreRight p list) (links : List
   is-placed : IsPlaced p list (required_of links) end
   is-placed = record { once = once; begins = at-end; there = asked-listed; leads_on = leads-from }
 
-  pub alike : IsAlike p q (IsAt list)
+  pub alike : IsAlike p q (IsModuleAt list)
   alike = is_alike p list (required_of links) end is-placed
 
   pub are-moved : AreMoved p q list
@@ -166,7 +166,7 @@ module _ (p : Program) (list : List ℕ) (right : AreRight p list) (links : List
       by (Some m) at = absurd (past (slice_get_within list k m at))
 
   -- ---- as they are linked
-  pub table-at-place : (k : ℕ) (part : Part) → slice_get parts k ≡ Some part →
+  pub table-at-place : (k : ℕ) (part : BundleModule) → slice_get parts k ≡ Some part →
       i.IsTableOf q k part.tables.now
   table-at-place k part at =
       let m = there_is list k (let within = slice_get_within parts k part at in omega (arith, within, are.long)) in
@@ -180,7 +180,7 @@ module _ (p : Program) (list : List ℕ) (right : AreRight p list) (links : List
       (table-at-place k part.0 part.1)
 
   -- its texts lead as is noted
-  pub lead-at : (k : ℕ) (part : Part) → slice_get parts k ≡ Some part → (s : Text) →
+  pub lead-at : (k : ℕ) (part : BundleModule) → slice_get parts k ≡ Some part → (s : Text) →
       q.leads k s ≡ get_by_text part.leads.now s
   lead-at k part at s =
       let link = there_is links k (let within = slice_get_within parts k part at in omega (arith, within, are.long, are.long_links)) in
@@ -210,12 +210,12 @@ module _ (p : Program) (list : List ℕ) (right : AreRight p list) (links : List
           let j = got (numbers_below (length links)) k there in
           let low = only_below (length links) j.0 k j.1 in
           let m = there_is list k (omega (arith, low.0, low.1, are.long_links)) in
-          let l = reached_on p q (IsAt list) alike m.0 (is-reached k m.0 m.1) in
+          let l = reached_on p q (IsModuleAt list) alike m.0 (is-reached k m.0 m.1) in
           subst (IsReached q) (once l.0 k m.0 l.1 m.1) l.2
 
       back : IsReached q k → Contains (numbers_below (length links)) k
       back is =
-          let l = reached_on q p (λ a b. IsAt list b a) (flip alike) k is in
+          let l = reached_on q p (λ a b. IsModuleAt list b a) (flip alike) k is in
           let within = slice_get_within list k l.0 l.1 in
           held (numbers_below (length links)) k k (all_below (length links) k (omega (arith, within, are.long_links)))
 
@@ -234,7 +234,7 @@ module _ (p : Program) (list : List ℕ) (right : AreRight p list) (links : List
       k
 
   pub is-program : (require : Bool) → p.settings.require ≡ require →
-      i.IsProgramOf q links (numbers_below (length links)) end require
+      i.IsLinkProgram q links (numbers_below (length links)) end require
   is-program require same = record {
     tables = link-table;
     others = λ m none. no-tree-at m (past-list m (λ below. (let there = there_is links m (omega (arith, below, are.long_links)) in absurd (none-some there.0 (sym none ∙ there.1)))));
@@ -248,16 +248,16 @@ module _ (p : Program) (list : List ℕ) (right : AreRight p list) (links : List
 
   -- ---- what is known of them
   -- the module of a place that is reached
-  number-of : (k : ℕ) → IsReached q k → (m : ℕ) × IsAt list m k × IsReached p m
-  number-of k is = reached_on q p (λ a b. IsAt list b a) (flip alike) k is
+  number-of : (k : ℕ) → IsReached q k → (m : ℕ) × IsModuleAt list m k × IsReached p m
+  number-of k is = reached_on q p (λ a b. IsModuleAt list b a) (flip alike) k is
 
   no-fault : (k stage place : ℕ) (file : FileName) (f : Fault) → IsReached q k →
       ProgramFault q file k stage place f → ⊥
   no-fault k stage place file f is fault =
       let its = number-of k is in
       faultless its.0 stage place file f its.2
-      (fault_on q p (λ a b. IsAt list b a) (flip alike)
-      (namespace_meant q p (λ a b. IsAt list b a) (flip alike)) fault its.0 its.1)
+      (fault_on q p (λ a b. IsModuleAt list b a) (flip alike)
+      (namespace_meant q p (λ a b. IsModuleAt list b a) (flip alike)) fault its.0 its.1)
 
   place-reached : (k : ℕ) → k < length list → IsReached q k
   place-reached k below =
@@ -277,7 +277,7 @@ module _ (p : Program) (list : List ℕ) (right : AreRight p list) (links : List
           let file = (are.each k m.0 part.0 m.1 part.1).faultless in
           absurd (no-fault k 2 d.place file.0 _ (place-reached k below) (doubled_declaration d is e))
 
-  readable : IsReadable q (length list)
+  readable : AreTreesReadable q (length list)
   readable = record {
     trees = of-each IsModuleTree no-tree (λ k m at. right.trees m (is-reached k m at));
     default =

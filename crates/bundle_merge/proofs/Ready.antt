@@ -5,14 +5,14 @@ use Rattle.std.specs.Prelude.{bytes_eq, is_some, option_map, slice_get, string_b
 use Rattle.std.specs.Option.{option_and_then, option_or}
 use Rattle.std.proofs.lemmas.Bool.{false≢true}
 use Rattle.std.proofs.lemmas.Option.{none-some, same_Some, slice_get_within}
-use Rattle.bundle_tree_leaf.specs.declared.kind.ExportMetadata.{ExportMetadata}
+use Rattle.bundle_syntax.specs.declared.kind.ExportMetadata.{ExportMetadata}
 use Rattle.bundle_tree_ast.specs.declared.module.Module.{Module}
 use Rattle.bundle_tree_ast.specs.declared.module.ModuleItem.{ModuleItem}
 use Rattle.bundle_tree_names.specs.FileName.{name_of, Name as FileName}
-use Rattle.bundle_tree_piece.specs.declared.piece.Role.{Role}
-use Rattle.bundle_tree_piece.specs.declared.piece.Role.TheVariants as r
-use Rattle.bundle_tree_piece.specs.Item as h
-use Rattle.bundle_tree_piece.specs.Item.{Head, Item}
+use Rattle.bundle_syntax.specs.declared.piece.Role.{Role}
+use Rattle.bundle_syntax.specs.declared.piece.Role.TheVariants as r
+use Rattle.bundle_syntax.specs.Item as h
+use Rattle.bundle_syntax.specs.Item.{Head, Item}
 use Rattle.bundle_tree_listed.specs.Tree.{module_item_items, module_items, node}
 use Rattle.bundle_tree_places.specs.Marks.{ident_of}
 use Rattle.bundle_tree_places.specs.declared.mark.Name.{Name}
@@ -35,42 +35,42 @@ use Rattle.bundle_rules.specs.Scopes.{ModuleKind, Es, Cjs, Inner, ScopeKind}
 use Rattle.bundle_rules.proofs.CallLemmas.{has_import_meta-cleared}
 use Rattle.bundle_rules.proofs.FaultLemmas as faults
 use Rattle.bundle_rules.proofs.FaultLemmas.{faultless_of_cleared}
-use Rattle.bundle_scope_denote.specs.Listed.{IsTable}
-use Rattle.bundle_scope_renamed.specs.fit.Fits as f
-use Rattle.bundle_scope_renamed.specs.fit.Fits.{AreFit, IsFit, a_name, a_node, name, no_more}
-use Rattle.bundle_scope_renamed.specs.fit.Sorts.{AModule, AProperty, Many, One, Sort, slot, takes, takes_name}
+use Rattle.bundle_scope_denote.specs.Listed.{IsDenotationTable}
+use Rattle.bundle_scope_names.specs.fit.Fits as f
+use Rattle.bundle_scope_names.specs.fit.Fits.{AreFit, IsFit, a_name, a_node, name, no_more}
+use Rattle.bundle_scope_names.specs.fit.Sorts.{AModule, AProperty, Many, One, NodeSort, slot, takes_head, takes_name}
 use Rattle.bundle_link_index.specs.Leads.{flagged}
 use Rattle.bundle_link_targets.specs.Meant.{IsModuleTree}
-use Rattle.bundle_link_reached.specs.Alike.{IsAt}
-use Rattle.bundle_link_reached.specs.Default.{DeclaresDefaultAlone}
-use Rattle.bundle_link_reached.specs.Leads.{Deps, led, place_in, told, told_by}
-use Rattle.bundle_link_reached.specs.Linked.{IsLinkedOf}
-use Rattle.bundle_link_reached.proofs.AlikeLemmas.{common_js_on, flip}
-use Rattle.bundle_link_reached.proofs.ClearedNodes.{cleared-module-tree}
-use Rattle.bundle_link_reached.proofs.DefaultLemmas.{default-once-cleared}
-use Rattle.bundle_link_reached.proofs.LeadLemmas.{told-led}
-use Rattle.bundle_link_reached.proofs.NumberLemmas.{at-place, held, place-there}
-use Rattle.bundle_link_reached.proofs.ProgramLemmas.{mapped}
-use Rattle.bundle_link_reached.proofs.RequestLemmas.{requests_to}
-use Rattle.bundle_link_reached.proofs.ToldLemmas.{kind_told}
-use Rattle.bundle_link.specs.Programs.{IsModuleOf}
+use Rattle.bundle_link.specs.Alike.{IsModuleAt}
+use Rattle.bundle_link.specs.Default.{DeclaresDefaultAlone}
+use Rattle.bundle_link.specs.Leads.{Deps, led, module_place, last_told, told_of_text}
+use Rattle.bundle_link.specs.Linked.{IsLinkedOf}
+use Rattle.bundle_link.proofs.AlikeLemmas.{common_js_on, flip}
+use Rattle.bundle_link.proofs.ClearedNodes.{cleared-module-tree}
+use Rattle.bundle_link.proofs.DefaultLemmas.{default-once-cleared}
+use Rattle.bundle_link.proofs.LeadLemmas.{told-led}
+use Rattle.bundle_link.proofs.NumberLemmas.{at-place, held, place-there}
+use Rattle.bundle_link.proofs.NumberedModuleLemmas.{mapped}
+use Rattle.bundle_link.proofs.RequestLemmas.{requests_to}
+use Rattle.bundle_link.proofs.ToldLemmas.{kind_told}
+use Rattle.bundle_link.specs.Programs.{IsTransformedOf}
 use Rattle.bundle_link.specs.declared.link.Linker.{Linker}
 use Rattle.bundle_link.specs.declared.transformed.TransformedModule.{TransformedModule}
 use Rattle.bundle_link.proofs.ClearedTables.{cleared-table}
-use Rattle.bundle_merge_whole.proofs.function.Given.{fit_given, one_alone}
-use Rattle.bundle_merge_whole.proofs.fit.Facts.{fit_nodes}
-use Rattle.bundle_merge_meaning.proofs.walked.Loading.{nodes_whole}
-use Rattle.bundle_merge_whole.specs.cleared.Programs.{cleared_program}
-use Rattle.bundle_merge_whole.specs.made.Given.{Answer, Fresh, Written}
-use Rattle.bundle_merge_whole.proofs.answered.Resolving.{resolved-cleared}
-use Rattle.bundle_merge_whole.proofs.cleared.Cleared.{checked-cleared, leads-cleared, list-cleared, meta-cleared, meta-item-cleared, of-cleared-kind, of-cleared-reached, to-cleared-reached, tree-of-cleared, undoubled-cleared}
-use Rattle.bundle_merge_whole.proofs.grown.Trees.{kept_fit}
-use Rattle.bundle_merge_whole.proofs.planned.RequestLemmas.{list-once}
+use Rattle.bundle_merge_theory.proofs.function.Given.{fit_given, one_alone}
+use Rattle.bundle_merge_theory.proofs.fit.Facts.{fit_nodes}
+use Rattle.bundle_merge_theory.proofs.walked.Loading.{nodes_whole}
+use Rattle.bundle_merge_theory.specs.cleared.Programs.{cleared_program}
+use Rattle.bundle_merge_theory.specs.made.Given.{HookAnswer, Fresh, Written}
+use Rattle.bundle_merge_theory.proofs.answered.Resolving.{resolved-cleared}
+use Rattle.bundle_merge_theory.proofs.cleared.Cleared.{checked-cleared, leads-cleared, list-cleared, meta-cleared, meta-item-cleared, of-cleared-kind, of-cleared-reached, to-cleared-reached, tree-of-cleared, undoubled-cleared}
+use Rattle.bundle_merge_theory.proofs.grown.Trees.{kept_fit}
+use Rattle.bundle_merge_theory.proofs.planned.RequestLemmas.{list-once}
 use Rattle.bundle_merge_names.specs.Bundle.{list_of_part}
-use Rattle.bundle_merge_names.specs.declared.part.Part.{Part}
+use Rattle.bundle_merge_names.specs.declared.part.BundleModule.{BundleModule}
 use Rattle.bundle_merge.specs.Handed.{AreObjectsApart, StandsInObject, its_inside, its_name}
-use Rattle.bundle_merge.specs.Placed.{AreRight, HasFront, IsRead, nothing, object}
-use Rattle.bundle_merge.specs.Read.{AreAllKnown, IsKnown, IsReadAt, IsReadOf, first_declared, held_by, list_of, own_list, without_front}
+use Rattle.bundle_merge.specs.Placed.{AreModulesRight, HasFront, IsModuleRead, nothing, object}
+use Rattle.bundle_merge.specs.Read.{AreAllKnown, IsModuleKnown, IsReadAt, IsReadModuleOf, first_declared, name_held, item_list, own_list, without_front}
 use Rattle.bundle_merge.specs.Ready.{IsMergeable}
 use Rattle.bundle_merge.proofs.Objects as o
 use Rattle.bundle_merge.proofs.Objects.{AnswersFit}
@@ -102,24 +102,24 @@ before-end test (h.Hole field ∷ xs) = before-end test xs
 before-end test (h.Close ∷ xs) = before-end test xs
 
 -- the list of items is that of their trees
-list-flat : (items : List ModuleItem) → list_of items ≡ flat (map (module_item_items 0) items)
+list-flat : (items : List ModuleItem) → item_list items ≡ flat (map (module_item_items 0) items)
 list-flat [] = refl
 list-flat (item ∷ items) = ap (λ l. module_item_items 0 item ++ l) (list-flat items)
 
 -- where something is told of a text, a number was told so
-told-some : (tell : ℕ → Option ℕ) (deps : Deps) (s : Text) (d : ℕ) → told tell deps s ≡ Some d →
+told-some : (tell : ℕ → Option ℕ) (deps : Deps) (s : Text) (d : ℕ) → last_told tell deps s ≡ Some d →
     (c : ℕ) × (tell c ≡ Some d)
 told-some tell [] s d is = absurd (none-some d is)
 told-some tell (dep ∷ rest) s d is =
-    by (told tell rest s) refl (λ later. told-some tell rest s d later) is
+    by (last_told tell rest s) refl (λ later. told-some tell rest s d later) is
   where
     here : (b : Bool) → (if b then tell dep.1 else None) ≡ Some d → (c : ℕ) × (tell c ≡ Some d)
     here true e = (dep.1, e)
     here false e = absurd (none-some d e)
 
-    by : (o : Option ℕ) → told tell rest s ≡ o →
-        (told tell rest s ≡ Some d → (c : ℕ) × (tell c ≡ Some d)) →
-        option_or o (told_by tell s dep) ≡ Some d → (c : ℕ) × (tell c ≡ Some d)
+    by : (o : Option ℕ) → last_told tell rest s ≡ o →
+        (last_told tell rest s ≡ Some d → (c : ℕ) × (tell c ≡ Some d)) →
+        option_or o (told_of_text tell s dep) ≡ Some d → (c : ℕ) × (tell c ≡ Some d)
     by None at later e = here (bytes_eq (string_bytes dep.0) s) e
     by (Some x) at later e = later (at ∙ e)
 
@@ -151,7 +151,7 @@ split-items (first ∷ rest) x xs is =
 
 -- ---- trees
 -- one node or name fits where one is asked for
-fit-alone : {sort : Sort} {field : ℕ} {items : List Item} → IsFit sort field items →
+fit-alone : {sort : NodeSort} {field : ℕ} {items : List Item} → IsFit sort field items →
     AreFit (slot field One sort ∷ []) items
 fit-alone (name it) = a_name it no_more
 fit-alone (f.node it in_it) = a_node it in_it no_more
@@ -168,7 +168,7 @@ module-is (f.node {head = head} {inside = inside} it in_it) =
     (λ k. h.Open 0 (same head it k) ∷ (inside ++ h.Close ∷ []))
     ∙ ap (λ l. h.Open 0 h.Module ∷ (l ++ h.Close ∷ [])) (sym (nodes_whole (fit_nodes in_it)))
   where
-    same : (head : Head) → takes head AModule ≡ true → head ≡ h.Module
+    same : (head : Head) → takes_head head AModule ≡ true → head ≡ h.Module
     same h.Module is = refl
     same _ is = absurd (false≢true is)
 
@@ -183,40 +183,40 @@ module _ (tree : List Item) (fits : IsFit AModule 0 tree) (items : List ModuleIt
 
   -- where no `import.meta` stands in it all are the module's own
   module _ (none_there : has_import_meta tree ≡ false) (are : map (module_item_items 0) items ≡ parts tree) where
-    all-listed : list_of items ≡ flat (parts tree)
+    all-listed : item_list items ≡ flat (parts tree)
     all-listed = list-flat items ∙ ap flat are
 
-    pub none-held : held_by items ≡ None
+    pub none-held : name_held items ≡ None
     none-held =
-        ap (λ b. first_declared (list_of (if b then take 1 items else [])))
+        ap (λ b. first_declared (item_list (if b then take 1 items else [])))
         (ap has_import_meta all-listed ∙ inside-meta ∙ none_there)
 
     pub all-own : own_list items ≡ tree
     all-own =
-        ap (λ name. node 0 h.Module (list_of (without_front name items))) none-held
+        ap (λ name. node 0 h.Module (item_list (without_front name items))) none-held
         ∙ ap (node 0 h.Module) all-listed ∙ sym whole
 
   -- else those behind the object that holds it are
   module _ (some_there : has_import_meta tree ≡ true) (notes : ExportMetadata) (ctxt : ℕ) (properties : List Item) (its : SplitItems items (meta_item notes ctxt properties) (parts tree)) where
-    behind-listed : list_of its.rest ≡ flat (parts tree)
+    behind-listed : item_list its.rest ≡ flat (parts tree)
     behind-listed = list-flat its.rest ∙ ap flat its.behind
 
-    meta-listed : has_import_meta (list_of items) ≡ true
+    meta-listed : has_import_meta (item_list items) ≡ true
     meta-listed =
-        ap (λ l. has_import_meta (list_of l)) its.is
-        ∙ some-behind is_import_meta (module_item_items 0 its.first) (list_of its.rest)
+        ap (λ l. has_import_meta (item_list l)) its.is
+        ∙ some-behind is_import_meta (module_item_items 0 its.first) (item_list its.rest)
         (ap has_import_meta behind-listed ∙ inside-meta ∙ some_there)
 
-    pub its-held : held_by items ≡ Some (codes "importMeta", ctxt)
+    pub its-held : name_held items ≡ Some (codes "importMeta", ctxt)
     its-held =
-        ap (λ b. first_declared (list_of (if b then take 1 items else []))) meta-listed
-        ∙ ap (λ l. first_declared (list_of (take 1 l))) its.is
+        ap (λ b. first_declared (item_list (if b then take 1 items else []))) meta-listed
+        ∙ ap (λ l. first_declared (item_list (take 1 l))) its.is
         ∙ ap (λ l. first_declared (l ++ [])) its.its
 
     pub others-own : own_list items ≡ tree
     others-own =
-        ap (λ name. node 0 h.Module (list_of (without_front name items))) its-held
-        ∙ ap (λ l. node 0 h.Module (list_of (drop 1 l))) its.is
+        ap (λ name. node 0 h.Module (item_list (without_front name items))) its-held
+        ∙ ap (λ l. node 0 h.Module (item_list (drop 1 l))) its.is
         ∙ ap (node 0 h.Module) behind-listed ∙ sym whole
 
 -- one context of a name that is written
@@ -243,7 +243,7 @@ module _ (p : Program) (hooks : Hooks) (contexts : ℕ → Contexts) (next : ℕ
       mapped (λ (its : TransformedModule). its.id) linker.modules.items k m
       (ap (λ (l : List ℕ). slice_get l k) (sym w.of.numbered) ∙ at)
 
-  its-place : (m : ℕ) → IsReached p m → (k : ℕ) × (place_in ids m ≡ Some k)
+  its-place : (m : ℕ) → IsReached p m → (k : ℕ) × (module_place ids m ≡ Some k)
   its-place m reached = place-there ids m (l.listed m ((l.reached m).1 reached))
 
   -- all modules of the list are there
@@ -254,16 +254,16 @@ module _ (p : Program) (hooks : Hooks) (contexts : ℕ → Contexts) (next : ℕ
       (its.0, record { place = k.0; numbered = k.1; there = its.1 })
 
   -- what is known under a number is its module
-  known-number : (m : ℕ) (known : TransformedModule) → IsKnown linker m known → known.id ≡ m
+  known-number : (m : ℕ) (known : TransformedModule) → IsModuleKnown linker m known → known.id ≡ m
   known-number m known its =
       let it = at-number m its.place (at-place ids m its.place its.numbered) in
       ap (λ (x : TransformedModule). x.id) (same_Some known it.0 (sym its.there ∙ it.1)) ∙ it.2
 
-  known-module : (m : ℕ) (known : TransformedModule) → IsKnown linker m known → IsModuleOf p known
+  known-module : (m : ℕ) (known : TransformedModule) → IsModuleKnown linker m known → IsTransformedOf p known
   known-module m known its = w.of.modules.each its.place known its.there
 
   -- which has no fault by itself
-  pub known-faultless : (m : ℕ) (known : TransformedModule) → IsKnown linker m known →
+  pub known-faultless : (m : ℕ) (known : TransformedModule) → IsModuleKnown linker m known →
       IsFaultless (name_of known.file_name) (tree_of p m)
   known-faultless m known its =
       subst (IsFaultless (name_of known.file_name))
@@ -293,7 +293,7 @@ module _ (p : Program) (hooks : Hooks) (contexts : ℕ → Contexts) (next : ℕ
       let its = its-cleared m reached in
       subst (IsFit AModule 0) (sym its.1) (kept_fit its.0.tree.now)
 
-  pub are-right : AreRight q list
+  pub are-right : AreModulesRight q list
   are-right = record {
     is_list = list-cleared p list l.list;
     checked = checked-cleared p ready.checked;
@@ -318,10 +318,10 @@ module _ (p : Program) (hooks : Hooks) (contexts : ℕ → Contexts) (next : ℕ
       by : (k : ℕ) → slice_get ids k ≡ Some m → (kind : ModuleKind) × HasKind l.places k kind →
           (kind : ModuleKind) × HasKind p m kind
       by k at (_, is_es not) =
-          (Es, is_es (λ common. not (common_js_on p l.places (IsAt ids) l.alike m k at common)))
+          (Es, is_es (λ common. not (common_js_on p l.places (IsModuleAt ids) l.alike m k at common)))
       by k at (_, is_common_js common) = (
         Cjs,
-        is_common_js (common_js_on l.places p (λ a b. IsAt ids b a) (flip l.alike) k m at common),
+        is_common_js (common_js_on l.places p (λ a b. IsModuleAt ids b a) (flip l.alike) k m at common),
       )
 
   -- ---- what stands in front of the prepared items of a module
@@ -406,19 +406,19 @@ module _ (p : Program) (hooks : Hooks) (contexts : ℕ → Contexts) (next : ℕ
       }
 
   -- what is told of a module: nothing, or that
-  abbrev pub ObjectIs : ℕ → Option Answer → Type 0
+  abbrev pub ObjectIs : ℕ → Option HookAnswer → Type 0
   ObjectIs m None = ⊥
   ObjectIs m (Some (Fresh properties)) = ⊥
   ObjectIs m (Some (Written ctxt notes properties)) = IsObjectOf m ctxt notes properties
 
-  pub data Told (m : ℕ) : Option Answer → Type 0 where
+  pub data Told (m : ℕ) : Option HookAnswer → Type 0 where
     plain : has_import_meta (tree_of p m) ≡ false → Told m None
-    written : {answer : Option Answer} → ObjectIs m answer → Told m answer
+    written : {answer : Option HookAnswer} → ObjectIs m answer → Told m answer
 
-  told-of : (m : ℕ) → IsReached p m → (answer : Option Answer) × Told m answer
+  told-of : (m : ℕ) → IsReached p m → (answer : Option HookAnswer) × Told m answer
   told-of m reached = by (fronts m reached)
     where
-      by : Fronts m reached → (answer : Option Answer) × Told m answer
+      by : Fronts m reached → (answer : Option HookAnswer) × Told m answer
       by (no_front none_there are) = (None, plain none_there)
       by (a_front front) =
           let its = front.own in (
@@ -430,14 +430,14 @@ module _ (p : Program) (hooks : Hooks) (contexts : ℕ → Contexts) (next : ℕ
   list-has k m at = (l.reached m).0 (held list m k at)
 
   -- the same of the module at a place of the list
-  pub data ToldAt (k : ℕ) : Option Answer → Type 0 where
+  pub data ToldAt (k : ℕ) : Option HookAnswer → Type 0 where
     past : slice_get list k ≡ None → ToldAt k None
-    there_is : {answer : Option Answer} (m : ℕ) → slice_get list k ≡ Some m → Told m answer → ToldAt k answer
+    there_is : {answer : Option HookAnswer} (m : ℕ) → slice_get list k ≡ Some m → Told m answer → ToldAt k answer
 
-  pub told-at : (k : ℕ) → (answer : Option Answer) × ToldAt k answer
+  pub told-at : (k : ℕ) → (answer : Option HookAnswer) × ToldAt k answer
   told-at k = by (slice_get list k) refl
     where
-      by : (found : Option ℕ) → slice_get list k ≡ found → (answer : Option Answer) × ToldAt k answer
+      by : (found : Option ℕ) → slice_get list k ≡ found → (answer : Option HookAnswer) × ToldAt k answer
       by None at = (None, past at)
       by (Some m) at = let its = told-of m (list-has k m at) in (its.0, there_is m at its.1)
 
@@ -483,26 +483,26 @@ module _ (p : Program) (hooks : Hooks) (contexts : ℕ → Contexts) (next : ℕ
         (subst (IsFaultless file) (sym (tree-of-cleared p m) ∙ own-cleared)
         (faults.faultless file (tree_of p m) alone))
 
-    module _ (k : ℕ) (at : slice_get list k ≡ Some m) (given : Module) (body : given.body.items ≡ items) (part : Part) (read : IsReadAt linker list m given part) where
+    module _ (k : ℕ) (at : slice_get list k ≡ Some m) (given : Module) (body : given.body.items ≡ items) (part : BundleModule) (read : IsReadAt linker list m given part) where
       known : TransformedModule
       known = read.known
 
       number : read.known.id ≡ m
       number = known-number m read.known read.is_known
 
-      was : IsReadOf linker read.known list items part
-      was = subst (λ its. IsReadOf linker read.known list its part) body read.is
+      was : IsReadModuleOf linker read.known list items part
+      was = subst (λ its. IsReadModuleOf linker read.known list its part) body read.is
 
       list-is : list_of_part part ≡ own_list items
       list-is =
-          ap (λ l. node 0 h.Module (list_of l))
+          ap (λ l. node 0 h.Module (item_list l))
           (ap (drop (if is_some part.written then 1 else 0)) was.its_items
           ∙ own-behind part.written items)
-          ∙ ap (λ name. node 0 h.Module (list_of (without_front name items))) was.written
+          ∙ ap (λ name. node 0 h.Module (item_list (without_front name items))) was.written
 
       -- its requests lead to listed modules
       leads-listed : (s : Text) → Contains (requests_in q.settings (tree_of q m)) s → (c : ℕ) →
-          led read.known.deps.items s ≡ Some c → (j : ℕ) × (place_in list c ≡ Some j)
+          led read.known.deps.items s ≡ Some c → (j : ℕ) × (module_place list c ≡ Some j)
       leads-listed s asked c leads =
           let to : p.leads m s ≡ Some c =
           ap (λ n. p.leads n s) (sym number)
@@ -513,11 +513,11 @@ module _ (p : Program) (hooks : Hooks) (contexts : ℕ → Contexts) (next : ℕ
           (Reaches-trans (to-cleared-reached p m reached)
           (along (requests_to q m c s asked to) itself))))
 
-      pub is-read : IsRead q list m part
+      pub is-read : IsModuleRead q list m part
       is-read = record {
         tree = own-cleared ∙ ap cleared (sym list-is);
         names = λ kind has.
-            subst (λ l. IsTable BySymbol kind l part.denotations.now) (sym list-is)
+            subst (λ l. IsDenotationTable BySymbol kind l part.denotations.now) (sym list-is)
             (was.names p kind w.of
             (subst (λ n. HasKind p n kind) (sym number) (of-cleared-kind p m kind has)));
         table =
@@ -526,11 +526,11 @@ module _ (p : Program) (hooks : Hooks) (contexts : ℕ → Contexts) (next : ℕ
         meta = was.meta ∙ sym (has_import_meta-cleared (own_list items)) ∙ ap has_import_meta (sym own-cleared);
         leads = λ s asked.
             was.leads s
-            ∙ told-led (place_in list) read.known.deps.items s (leads-listed s asked)
-            ∙ ap (option_and_then (place_in list))
+            ∙ told-led (module_place list) read.known.deps.items s (leads-listed s asked)
+            ∙ ap (option_and_then (module_place list))
             (sym ((known-module m read.known read.is_known).leads s) ∙ ap (λ n. p.leads n s) number);
         within = λ d s leads.
-            (let c = told-some (place_in list) read.known.deps.items s d (sym (was.leads s) ∙ leads) in
+            (let c = told-some (module_place list) read.known.deps.items s d (sym (was.leads s) ∙ leads) in
             slice_get_within list d c.0 (at-place list c.0 d c.1));
         faultless = (
           name_of read.known.file_name,
@@ -546,10 +546,10 @@ module _ (p : Program) (hooks : Hooks) (contexts : ℕ → Contexts) (next : ℕ
           ∙ ap (λ n. (contexts n).local) number
 
       -- what stands in front of its own items is what is told
-      pub has-front : {answer : Option Answer} → Told m answer → HasFront q hooks m part answer
+      pub has-front : {answer : Option HookAnswer} → Told m answer → HasFront q hooks m part answer
       has-front (plain none_there) = nothing (meta-cleared p m ∙ none_there) (no-name part.written (was.written ∙ by (fronts m reached)))
         where
-          by : Fronts m reached → held_by items ≡ None
+          by : Fronts m reached → name_held items ≡ None
           by (no_front not are) =
               none-held its.tree is-fit items (tree-meta ∙ not) (prepared_are ∙ are)
           by (a_front front) = absurd (false≢true (sym none_there ∙ front.has))
@@ -579,19 +579,19 @@ module _ (p : Program) (hooks : Hooks) (contexts : ℕ → Contexts) (next : ℕ
               (prepared_are ∙ object_is.are
               ∙ (λ i. object_is.is i ∷ behind-is i))
 
-          held-so : held_by items ≡ Some (codes "importMeta", ctxt)
+          held-so : name_held items ≡ Some (codes "importMeta", ctxt)
           held-so =
               its-held its.tree is-fit items (tree-meta ∙ object_is.has) notes ctxt properties split
       has-front {answer = None} (written object_is) = absurd object_is
       has-front {answer = Some (Fresh properties)} (written object_is) = absurd object_is
 
   -- ---- contexts that stand in objects
-  module _ (answers : ℕ → Option Answer) (tells : (k : ℕ) → ToldAt k (answers k)) where
+  module _ (answers : ℕ → Option HookAnswer) (tells : (k : ℕ) → ToldAt k (answers k)) where
     -- where nothing is told of a place past the list
     pub past-none : (k : ℕ) → slice_get list k ≡ None → answers k ≡ None
     past-none k none_at = by (tells k)
       where
-        by : {answer : Option Answer} → ToldAt k answer → answer ≡ None
+        by : {answer : Option HookAnswer} → ToldAt k answer → answer ≡ None
         by (past at) = refl
         by (there_is m at its) = absurd (none-some m (sym none_at ∙ at))
 
@@ -599,12 +599,12 @@ module _ (p : Program) (hooks : Hooks) (contexts : ℕ → Contexts) (next : ℕ
     pub told-there : (k m : ℕ) → slice_get list k ≡ Some m → Told m (answers k)
     told-there k m at = by (tells k)
       where
-        by : {answer : Option Answer} → ToldAt k answer → Told m answer
+        by : {answer : Option HookAnswer} → ToldAt k answer → Told m answer
         by (past none_at) = absurd (none-some m (sym none_at ∙ at))
         by {answer = answer} (there_is other its_at its) =
             subst (λ n. Told n answer) (same_Some other m (sym its_at ∙ at)) its
 
-    record AnObject (k : ℕ) (answer : Option Answer) : Type 0 where
+    record AnObject (k : ℕ) (answer : Option HookAnswer) : Type 0 where
       m : ℕ
       at : slice_get list k ≡ Some m
       its : ObjectIs m answer
@@ -614,14 +614,14 @@ module _ (p : Program) (hooks : Hooks) (contexts : ℕ → Contexts) (next : ℕ
         AnObject k (Some (Written ctxt notes properties))
     object-at k ctxt notes properties same = by (tells k) same
       where
-        by_told : {answer : Option Answer} (m : ℕ) → slice_get list k ≡ Some m → Told m answer →
+        by_told : {answer : Option HookAnswer} (m : ℕ) → slice_get list k ≡ Some m → Told m answer →
             answer ≡ Some (Written ctxt notes properties) →
             AnObject k (Some (Written ctxt notes properties))
         by_told m at (plain none_there) e =
             absurd (none-some (Written ctxt notes properties) e)
         by_told m at (written its) e = record { m = m; at = at; its = subst (ObjectIs m) e its }
 
-        by : {answer : Option Answer} → ToldAt k answer →
+        by : {answer : Option HookAnswer} → ToldAt k answer →
             answer ≡ Some (Written ctxt notes properties) →
             AnObject k (Some (Written ctxt notes properties))
         by (past none_at) e = absurd (none-some (Written ctxt notes properties) e)

@@ -1,8 +1,8 @@
 -- What was read of a module, as it is handed on to be linked and to be merged.
 use Rattle.std.specs.Prelude.{◌≡◌, ◌≢◌, ◌⊎◌, ◌-◌, ◌<◌, ℕ, List, [], Option, Some, None, length, slice_get}
 use Rattle.std.specs.List.{AllZip}
-use Rattle.bundle_tree_leaf.specs.declared.kind.ExportMetadata.{ExportMetadata}
-use Rattle.bundle_tree_piece.specs.Item.{Item}
+use Rattle.bundle_syntax.specs.declared.kind.ExportMetadata.{ExportMetadata}
+use Rattle.bundle_syntax.specs.Item.{Item}
 use Rattle.bundle_order_graph.specs.Modules.{deps}
 use Rattle.bundle_order_sort.specs.declared.plan.Block.{Block}
 use Rattle.bundle_rules.specs.Bundle.{Hooks, properties_tree}
@@ -11,33 +11,33 @@ use Rattle.bundle_rules.specs.Denotes.{Bound, denoted_as}
 use Rattle.bundle_rules.specs.Places.{Occurrence, occurrences}
 use Rattle.bundle_rules.specs.Program.{Program, requested, IsReached}
 use Rattle.bundle_rules.specs.Scopes.{Es, Inner, ScopeKind}
-use Rattle.bundle_link_index.specs.Programs.{IsProgramOf}
-use Rattle.bundle_link_reached.specs.Judged.{numbers_below}
+use Rattle.bundle_link_index.specs.Programs.{IsLinkProgram}
+use Rattle.bundle_link.specs.Judged.{numbers_below}
 use Rattle.bundle_link_targets.specs.Linked.{HandsOver, IsLinkingOf}
 use Rattle.bundle_link_targets.specs.declared.linking.Linking.{Linking}
-use Rattle.bundle_merge_whole.specs.made.Given.{Answer, Written}
+use Rattle.bundle_merge_theory.specs.made.Given.{HookAnswer, Written}
 use Rattle.bundle_merge_names.specs.Numbers.{position}
 use Rattle.bundle_merge_names.specs.declared.error.MergeError.{MergeError}
 use Rattle.bundle_merge_names.specs.declared.error.MergeError.TheVariants.{OutOfMemory}
-use Rattle.bundle_merge_names.specs.declared.part.BundleParts.{BundleParts}
-use Rattle.bundle_merge.specs.Placed.{AreRight, HasFront, IsRead}
+use Rattle.bundle_merge_names.specs.declared.part.BundleInput.{BundleInput}
+use Rattle.bundle_merge.specs.Placed.{AreModulesRight, HasFront, IsModuleRead}
 use Rattle.bundle_tree_ast.specs.declared.module.Module.{Module}
 use Rattle.bundle_link_index.specs.declared.target.LinkModule.{LinkModule}
 use Rattle.bundle_link.specs.Refusals.{Links}
 use Rattle.bundle_link.specs.declared.link.Linker.{Linker}
-use Rattle.bundle_merge_names.specs.declared.part.Part.{Part}
-use Rattle.bundle_merge_items.specs.declared.merge.Merged.{Merged}
+use Rattle.bundle_merge_names.specs.declared.part.BundleModule.{BundleModule}
+use Rattle.bundle_merge_items.specs.declared.merge.MergedModule.{MergedModule}
 use Rattle.bundle_merge.specs.Read.{IsReadAt}
 use Rattle.bundle_merge.specs.Ready.{IsMergedAs, IsRefusedAs, TakesAs}
-use Rattle.bundle_merge.specs.declared.read.Read.{Read}
+use Rattle.bundle_merge.specs.declared.read.ReadModule.{ReadModule}
 
 -- what was read is handed on, as a module that is linked
-pub record IsLinkRead (read : Read) (its : LinkModule) : Type 0 where
+pub record IsLinkRead (read : ReadModule) (its : LinkModule) : Type 0 where
   pub tables : its.tables.now ≡ read.tables
   pub leads : its.leads.now ≡ read.leads
 
 -- and as one that is merged
-pub record IsPartRead (read : Read) (part : Part) : Type 0 where
+pub record IsPartRead (read : ReadModule) (part : BundleModule) : Type 0 where
   pub items : part.items.now ≡ read.items.now
   pub denotations : part.denotations.now ≡ read.names
   pub tables : part.tables.now ≡ read.tables
@@ -46,9 +46,10 @@ pub record IsPartRead (read : Read) (part : Part) : Type 0 where
   pub written : part.written ≡ read.written
 
 -- what was read of the modules on the linker's list from these items, in turn
-pub record AreReadFrom (linker : Linker) (ids : List ℕ) (list : List ℕ) (copies : List Module) (n : ℕ) (reads : List Read) : Type 0 where
+pub record AreReadFrom (linker : Linker) (ids : List ℕ) (list : List ℕ) (copies : List Module)
+    (n : ℕ) (reads : List ReadModule) : Type 0 where
   pub long : length reads ≡ n
-  pub each : (k m : ℕ) (its : Module) (read : Read) (part : Part) →
+  pub each : (k m : ℕ) (its : Module) (read : ReadModule) (part : BundleModule) →
       slice_get list k ≡ Some m →
       slice_get copies k ≡ Some its →
       slice_get reads k ≡ Some read →
@@ -57,7 +58,7 @@ pub record AreReadFrom (linker : Linker) (ids : List ℕ) (list : List ℕ) (cop
 
 -- a context stands inside the object of an `import.meta` that is written already for the module at a place: a binding
 -- inside has it
-pub record StandsInside (answers : ℕ → Option Answer) (k ctxt : ℕ) : Type 0 where
+pub record StandsInside (answers : ℕ → Option HookAnswer) (k ctxt : ℕ) : Type 0 where
   pub own : ℕ
   pub notes : ExportMetadata
   pub properties : List Item
@@ -72,7 +73,7 @@ pub record StandsInside (answers : ℕ → Option Answer) (k ctxt : ℕ) : Type 
   pub is : o.ctxt ≡ ctxt
 
 -- or in it: the object's name has it, or such a binding
-pub data StandsInObject (answers : ℕ → Option Answer) (k ctxt : ℕ) : Type 0 where
+pub data StandsInObject (answers : ℕ → Option HookAnswer) (k ctxt : ℕ) : Type 0 where
   its_name : (notes : ExportMetadata) (properties : List Item) →
       answers k ≡ Some (Written ctxt notes properties) →
       StandsInObject answers k ctxt
@@ -80,10 +81,12 @@ pub data StandsInObject (answers : ℕ → Option Answer) (k ctxt : ℕ) : Type 
 
 -- the contexts of such objects are above that of globals and below the next one, and none is that of a module's top; no
 -- two objects have one in common, and no binding inside one has that of its name
-pub record AreObjectsApart (list : List ℕ) (local : ℕ → ℕ) (next : ℕ) (answers : ℕ → Option Answer) : Type 0 where
+pub record AreObjectsApart (list : List ℕ) (local : ℕ → ℕ) (next : ℕ)
+    (answers : ℕ → Option HookAnswer) : Type 0 where
   pub own : (k ctxt : ℕ) → StandsInObject answers k ctxt → 1 < ctxt
   pub free : (k ctxt : ℕ) → StandsInObject answers k ctxt → ctxt < next
-  pub tops : (k n m ctxt : ℕ) → StandsInObject answers k ctxt → slice_get list n ≡ Some m → ctxt ≢ local m
+  pub tops : (k n m ctxt : ℕ) → StandsInObject answers k ctxt → slice_get list n ≡ Some m →
+      ctxt ≢ local m
   pub apart : (k n ctxt : ℕ) → StandsInObject answers k ctxt → StandsInObject answers n ctxt → k ≡ n
   pub names : (k ctxt its : ℕ) (notes : ExportMetadata) (properties : List Item) →
       answers k ≡ Some (Written ctxt notes properties) →
@@ -92,13 +95,14 @@ pub record AreObjectsApart (list : List ℕ) (local : ℕ → ℕ) (next : ℕ) 
 
 -- what was read of the modules on the list of a program, whose settings, entry and graph the linker has; each has its
 -- context, and in front of its own items stands what the hooks may have answered
-pub record AreReadIn (p : Program) (hooks : Hooks) (linker : Linker) (local : ℕ → ℕ) (next : ℕ) (reads : List Read) : Type 0 where
+pub record AreReadIn (p : Program) (hooks : Hooks) (linker : Linker) (local : ℕ → ℕ) (next : ℕ)
+    (reads : List ReadModule) : Type 0 where
   pub links : Links linker.config p.settings
   pub begins : p.entry ≡ linker.entry
   pub graph : (m : ℕ) → deps linker.linked.graph m ≡ requested p m
-  pub right : AreRight p linker.linked.list.items
-  pub answers : ℕ → Option Answer
-  pub fronts : (k m : ℕ) (read : Read) (part : Part) →
+  pub right : AreModulesRight p linker.linked.list.items
+  pub answers : ℕ → Option HookAnswer
+  pub fronts : (k m : ℕ) (read : ReadModule) (part : BundleModule) →
       slice_get linker.linked.list.items k ≡ Some m →
       slice_get reads k ≡ Some read →
       IsPartRead read part →
@@ -106,12 +110,12 @@ pub record AreReadIn (p : Program) (hooks : Hooks) (linker : Linker) (local : �
   pub past : (k : ℕ) → slice_get linker.linked.list.items k ≡ None → answers k ≡ None
   pub objects : AreObjectsApart linker.linked.list.items local next answers
   pub long : length reads ≡ length linker.linked.list.items
-  pub each : (k m : ℕ) (read : Read) (part : Part) →
+  pub each : (k m : ℕ) (read : ReadModule) (part : BundleModule) →
       slice_get linker.linked.list.items k ≡ Some m →
       slice_get reads k ≡ Some read →
       IsPartRead read part →
-      IsRead p linker.linked.list.items m part
-  pub locals : (k m : ℕ) (read : Read) (part : Part) →
+      IsModuleRead p linker.linked.list.items m part
+  pub locals : (k m : ℕ) (read : ReadModule) (part : BundleModule) →
       slice_get linker.linked.list.items k ≡ Some m →
       slice_get reads k ≡ Some read →
       IsPartRead read part →
@@ -121,19 +125,21 @@ pub record AreReadIn (p : Program) (hooks : Hooks) (linker : Linker) (local : �
   pub apart : (m n : ℕ) → IsReached p m → IsReached p n → local m ≡ local n → m ≡ n
 
 -- modules are linked as the linker's settings say
-pub record IsLinkedRead (linker : Linker) (reads : List Read) (linking : Linking) : Type 0 where
+pub record IsLinkedRead (linker : Linker) (reads : List ReadModule)
+    (linking : Linking) : Type 0 where
   pub links : List LinkModule
   pub each : AllZip IsLinkRead reads links
   pub linked : (p : Program) →
-      IsProgramOf p links (numbers_below (length links)) (length links - 1) linker.config.require →
+      IsLinkProgram p links (numbers_below (length links)) (length links - 1) linker.config.require →
       IsLinkingOf p linking
   pub handed : (p : Program) →
-      IsProgramOf p links (numbers_below (length links)) (length links - 1) linker.config.require →
+      IsLinkProgram p links (numbers_below (length links)) (length links - 1) linker.config.require →
       HandsOver p (numbers_below (length links)) linking
 
 -- what is merged: the modules that were read, for which the hook is not asked, as they are linked, their blocks, and
 -- contexts from this one on
-pub record IsBundleRead (reads : List Read) (linking : Linking) (blocks : List Block) (next : ℕ) (bundle : BundleParts) : Type 0 where
+pub record IsBundleRead (reads : List ReadModule) (linking : Linking) (blocks : List Block)
+    (next : ℕ) (bundle : BundleInput) : Type 0 where
   pub parts : AllZip IsPartRead reads bundle.parts.now
   pub answers : bundle.answers.now ≡ []
   pub linked : bundle.linking.now ≡ linking
@@ -141,19 +147,21 @@ pub record IsBundleRead (reads : List Read) (linking : Linking) (blocks : List B
   pub contexts : position bundle.contexts ≡ next
 
 -- something is made of them, of few contexts
-pub record IsMadeOfRead (reads : List Read) (linking : Linking) (blocks : List Block) (next : ℕ) (merged : Merged) : Type 0 where
-  pub bundle : BundleParts
+pub record IsMadeOfRead (reads : List ReadModule) (linking : Linking) (blocks : List Block)
+    (next : ℕ) (merged : MergedModule) : Type 0 where
+  pub bundle : BundleInput
   pub read : IsBundleRead reads linking blocks next bundle
   pub made : IsMergedAs bundle merged
   pub few : TakesAs bundle merged
 
 -- or nothing is
-pub record IsRefusedOfRead (reads : List Read) (linking : Linking) (blocks : List Block) (next : ℕ) (refusal : MergeError) : Type 0 where
-  pub bundle : BundleParts
+pub record IsRefusedOfRead (reads : List ReadModule) (linking : Linking) (blocks : List Block)
+    (next : ℕ) (refusal : MergeError) : Type 0 where
+  pub bundle : BundleInput
   pub read : IsBundleRead reads linking blocks next bundle
   pub refused : IsRefusedAs bundle refusal
 
 -- for memory, or as the merge of bundles refuses
-abbrev pub MayRefuseRead : List Read → Linking → List Block → ℕ → MergeError → Type 0
+abbrev pub MayRefuseRead : List ReadModule → Linking → List Block → ℕ → MergeError → Type 0
 MayRefuseRead reads linking blocks next refusal =
     (refusal ≡ OutOfMemory) ⊎ IsRefusedOfRead reads linking blocks next refusal

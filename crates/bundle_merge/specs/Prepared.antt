@@ -1,6 +1,6 @@
 -- The prepared items of modules, by the places of these on a list.
 use Rattle.std.specs.Prelude.{ℕ, zero, suc, List, [], ◌∷◌, ◌++◌, map}
-use Rattle.bundle_tree_piece.specs.Item.{Item}
+use Rattle.bundle_syntax.specs.Item.{Item}
 use Rattle.bundle_rules.specs.Parts.{Owned, items_in}
 
 -- the lists with one more item at the end of that at a place, if there is one

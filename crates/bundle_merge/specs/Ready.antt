@@ -3,7 +3,7 @@ use Rattle.std.specs.Prelude.{◌≡◌, ℕ, Bool, List, Option, Contains, leng
 use Rattle.std.specs.List.{flat_map}
 use Rattle.bundle_tree_ast.specs.declared.expr.Expr.{Expr}
 use Rattle.bundle_tree_ast.specs.declared.prop.KeyValueProp.{KeyValueProp}
-use Rattle.bundle_tree_piece.specs.Item.{Item}
+use Rattle.bundle_syntax.specs.Item.{Item}
 use Rattle.bundle_tree_listed.specs.Tree.{key_value_prop_items}
 use Rattle.bundle_tree_names.specs.FileName.{Name}
 use Rattle.bundle_rules.specs.Bundle.{Hooks}
@@ -12,18 +12,18 @@ use Rattle.bundle_rules.specs.Program.{Program}
 use Rattle.bundle_link.specs.Programs.{IsLinkerOf}
 use Rattle.bundle_link.specs.declared.link.Linker.{Linker}
 use Rattle.bundle_link.specs.declared.transformed.TransformedModule.{TransformedModule}
-use Rattle.bundle_merge_whole.specs.made.Given.{Answer}
-use Rattle.bundle_merge_whole.specs.made.Alone.{AreSound}
-use Rattle.bundle_merge_whole.specs.sound.Decided.{AreTold}
-use Rattle.bundle_merge_whole.specs.sound.Known.{LeadsAll}
+use Rattle.bundle_merge_theory.specs.made.Given.{HookAnswer}
+use Rattle.bundle_merge_theory.specs.made.Alone.{AreTreesSound}
+use Rattle.bundle_merge_theory.specs.sound.Decided.{AreTablesTold}
+use Rattle.bundle_merge_theory.specs.sound.Known.{LeadsAll}
 use Rattle.bundle_merge_names.specs.Bundle.{AreBundleParts}
 use Rattle.bundle_merge_names.specs.Numbers.{position}
 use Rattle.bundle_merge_names.specs.Refused.{RefusesNames, TakesFew}
 use Rattle.bundle_merge_names.specs.declared.error.MergeError.{MergeError}
-use Rattle.bundle_merge_names.specs.declared.part.BundleParts.{BundleParts}
+use Rattle.bundle_merge_names.specs.declared.part.BundleInput.{BundleInput}
 use Rattle.bundle_merge_items.specs.Adds.{AreAnswered}
 use Rattle.bundle_merge_items.specs.Merged.{AreBlocksOnce, IsMergedOf}
-use Rattle.bundle_merge_items.specs.declared.merge.Merged.{Merged}
+use Rattle.bundle_merge_items.specs.declared.merge.MergedModule.{MergedModule}
 
 -- the lists of properties that a hook may answer, by the file's name and whether it is the entry's
 abbrev pub Answering : Type 0
@@ -48,23 +48,23 @@ pub record IsMergeable (p : Program) (contexts : ℕ → Contexts) (linker : Lin
       (contexts its.id).local ≡ its.local_ctxt
 
 -- what is merged of a bundle, as the merge of bundles promises it
-abbrev pub IsMergedAs : BundleParts → Merged → Type 0
+abbrev pub IsMergedAs : BundleInput → MergedModule → Type 0
 IsMergedAs bundle merged =
-    (q : Program) (list : List ℕ) (answers : ℕ → Option Answer) (meta : ℕ → Bool)
-    (count : ℕ → ℕ) → AreSound q list → AreBundleParts q list answers bundle →
+    (q : Program) (list : List ℕ) (answers : ℕ → Option HookAnswer) (meta : ℕ → Bool)
+    (count : ℕ → ℕ) → AreTreesSound q list → AreBundleParts q list answers bundle →
     AreBlocksOnce bundle → AreAnswered q answers →
-    AreTold q (length bundle.parts.now) meta count →
+    AreTablesTold q (length bundle.parts.now) meta count →
     IsMergedOf q list answers bundle meta count merged
 
 -- how many contexts it takes, and why it is refused
-abbrev pub TakesAs : BundleParts → Merged → Type 0
+abbrev pub TakesAs : BundleInput → MergedModule → Type 0
 TakesAs bundle merged =
-    (q : Program) (list : List ℕ) (answers : ℕ → Option Answer) →
+    (q : Program) (list : List ℕ) (answers : ℕ → Option HookAnswer) →
     AreBundleParts q list answers bundle →
     TakesFew q list answers (position bundle.contexts) (position merged.contexts)
 
-abbrev pub IsRefusedAs : BundleParts → MergeError → Type 0
+abbrev pub IsRefusedAs : BundleInput → MergeError → Type 0
 IsRefusedAs bundle refusal =
-    (q : Program) (list : List ℕ) (answers : ℕ → Option Answer) →
+    (q : Program) (list : List ℕ) (answers : ℕ → Option HookAnswer) →
     AreBundleParts q list answers bundle →
     RefusesNames q list answers (position bundle.contexts) refusal

@@ -1,6 +1,6 @@
 -- Why modules are not merged.
 use Rattle.std.specs.Prelude.{◌≡◌, ◌⊎◌, ⊤, ℕ, List, Some, Contains, slice_get}
-use Rattle.bundle_tree_piece.specs.Item.{Item}
+use Rattle.bundle_syntax.specs.Item.{Item}
 use Rattle.bundle_tree_ast.specs.declared.module.Module.{Module}
 use Rattle.bundle_tree_names.specs.FileName.{Name, name_of}
 use Rattle.bundle_tree_names.specs.declared.error.Error.{Error}
@@ -13,10 +13,10 @@ use Rattle.bundle_link.specs.declared.transformed.TransformedModule.{Transformed
 use Rattle.bundle_link.specs.Refusals.{IsTreeRefusal}
 use Rattle.bundle_scope.specs.Refusals.{IsUsedUp}
 use Rattle.bundle_merge_names.specs.Numbers.{position}
-use Rattle.bundle_merge_names.specs.declared.context.Contexts as numbers
+use Rattle.bundle_merge_names.specs.declared.context.FreshContexts as numbers
 use Rattle.bundle_merge_names.specs.declared.error.MergeError.{MergeError}
 use Rattle.bundle_merge_names.specs.declared.error.MergeError.TheVariants as e
-use Rattle.bundle_merge.specs.Read.{IsKnown, own_list}
+use Rattle.bundle_merge.specs.Read.{IsModuleKnown, own_list}
 
 -- memory ran out, or contexts of this file do not suffice
 abbrev pub IsLack : Name → Error → Type 0
@@ -34,17 +34,17 @@ MayLackNames p hooks next e.OutOfMemory = ⊤
 MayLackNames p hooks next (e.ContextsUsedUp its) = NeedsTooManyContexts p hooks next
 
 -- memory ran out, or contexts of this file do not suffice, as all are used up and none is the next one
-abbrev pub IsLackAfter : Name → numbers.Contexts → Error → Type 0
+abbrev pub IsLackAfter : Name → numbers.FreshContexts → Error → Type 0
 IsLackAfter file contexts error =
     (error ≡ OutOfMemory) ⊎ (IsUsedUp file error × (position contexts ≡ 4294967296))
 
 -- memory ran out, or the first fault is told that a tree has by itself, in the file of one of these modules
-abbrev pub IsRefusalOfOne : List TransformedModule → Error → Type 0
-IsRefusalOfOne modules error = (error ≡ OutOfMemory) ⊎ ((m : TransformedModule) × (tree : List Item) × Contains modules m × IsTreeRefusal (name_of m.file_name) tree error)
+abbrev pub IsMergeRefusal : List TransformedModule → Error → Type 0
+IsMergeRefusal modules error = (error ≡ OutOfMemory) ⊎ ((m : TransformedModule) × (tree : List Item) × Contains modules m × IsTreeRefusal (name_of m.file_name) tree error)
 
 -- either of these
-abbrev pub MayRefuse : Name → List TransformedModule → Error → Type 0
-MayRefuse file modules error = IsLack file error ⊎ IsRefusalOfOne modules error
+abbrev pub MayRefuseMerge : Name → List TransformedModule → Error → Type 0
+MayRefuseMerge file modules error = IsLack file error ⊎ IsMergeRefusal modules error
 
 -- of the modules on a list these items are read: the first fault is told that the own items of one of them have
 pub record HasOwnFault (linker : Linker) (list : List ℕ) (copies : List Module) (error : Error) :
@@ -55,7 +55,7 @@ pub record HasOwnFault (linker : Linker) (list : List ℕ) (copies : List Module
   pub known : TransformedModule
   pub at : slice_get list place ≡ Some number
   pub there : slice_get copies place ≡ Some items
-  pub is_known : IsKnown linker number known
+  pub is_known : IsModuleKnown linker number known
   pub told : IsTreeRefusal (name_of known.file_name) (own_list items.body.items) error
 
 -- memory ran out, or that is told

@@ -3,7 +3,7 @@
 ghost use Rattle.std.specs.Prelude.{◌≡◌, ◌≤◌, ℕ, Contains, IfErr, IfOk, IfSome, List, OnErr, OnOk, Some, length, map, option_map, slice_get};
 ghost use Rattle.std.specs.List.{AllZip};
 ghost use Rattle.bundle_tree_names.specs.FileName.{name_of};
-ghost use Rattle.bundle_tree_piece.specs.Item.{Item};
+ghost use Rattle.bundle_syntax.specs.Item.{Item};
 ghost use Rattle.bundle_rules.specs.Faults.{NeedsTooManyContexts};
 ghost use Rattle.bundle_rules.specs.Merged.{Contexts as ModuleContexts, IsMerged, IsPrepared};
 ghost use Rattle.bundle_rules.specs.Nodes.{numbers_once};
@@ -12,21 +12,21 @@ ghost use Rattle.bundle_rules.specs.Program.{Program};
 ghost use Rattle.bundle_link.specs.declared.transformed.TransformedModule as transformed;
 ghost use Rattle.bundle_scope.specs.Contexts.{HasGiven};
 ghost use Rattle.bundle_scope.specs.Refusals.{IsUsedUp};
-ghost use Rattle.bundle_merge_meaning.specs.joined.Joined as tree;
+ghost use Rattle.bundle_merge_theory.specs.joined.Joined as tree;
 ghost use Rattle.bundle_merge_names.specs.Numbers.{position};
-ghost use Rattle.bundle_merge_items.specs.Added.{items_of};
+ghost use Rattle.bundle_merge_items.specs.Added.{module_item_lists};
 ghost use Rattle.bundle_merge.specs.Handed.{AreReadFrom, AreReadIn, IsLinkRead, IsLinkedRead, IsMadeOfRead, IsPartRead, MayRefuseRead};
 ghost use Rattle.bundle_merge.specs.Prepared.{items_of_each};
-ghost use Rattle.bundle_merge.specs.Read.{AreAllKnown, IsKnown};
+ghost use Rattle.bundle_merge.specs.Read.{AreAllKnown, IsModuleKnown};
 ghost use Rattle.bundle_merge.specs.Ready.{Answering, IsMergeable, hooks_by};
-ghost use Rattle.bundle_merge.specs.Refusals.{IsLack, IsLackAfter, IsRefusalOfOne, IsRefusalOfRead, MayLack, MayLackNames, MayRefuse};
+ghost use Rattle.bundle_merge.specs.Refusals.{IsLack, IsLackAfter, IsMergeRefusal, IsRefusalOfRead, MayLack, MayLackNames, MayRefuseMerge};
 
 use crate::prepared::{copies_of, places_of};
-use crate::read::{Read, read_module};
+use crate::read::{ReadModule, read_module};
 use bundle_link::link::{Linker, TransformedModule};
 use bundle_link_targets::{LinkModule, Linking};
 use bundle_merge_items::{
-    BundleParts, Contexts as Numbers, MergeError, Merged, Part, merge_modules,
+    BundleInput, BundleModule, FreshContexts as Numbers, MergeError, MergedModule, merge_modules,
 };
 use bundle_merge_modules::Modules;
 use bundle_order_sort::{Block, plan_of};
@@ -63,7 +63,7 @@ pub fn merge_into_entry<'a>(
         IsPrepared p (hooks_by given) its contexts.old.next prepared.now →
         IsMerged (λ x. x) (λ m. (its m).local) p (hooks_by given) (Parts.body_of merged)) }
     ensures given { OnOk result (HasGiven contexts.old contexts.new) }
-    ensures refused { IfErr result (MayRefuse contexts.old.file linker.now.modules.items) }
+    ensures refused { IfErr result (MayRefuseMerge contexts.old.file linker.now.modules.items) }
     ensures lacks { IfErr result (λ refusal.
         (p : Program) (given : Answering) (its : ℕ → ModuleContexts) →
         IsMergeable p its linker.now →
@@ -92,8 +92,8 @@ fn joined<'a>(
         IsMergeable p its linker.now →
         IsPrepared p (hooks_by given) its contexts.now.next prepared.now →
         places.now.keys ≡ numbers_once linker.now.linked.list.items →
-        IsMerged (λ x. x) (λ m. (its m).local) p (hooks_by given) (tree.joined (items_of made.0))) }
-    ensures refused { IfErr result (MayRefuse contexts.now.file linker.now.modules.items) }
+        IsMerged (λ x. x) (λ m. (its m).local) p (hooks_by given) (tree.joined_items (module_item_lists made.0))) }
+    ensures refused { IfErr result (MayRefuseMerge contexts.now.file linker.now.modules.items) }
     ensures lacks { IfErr result (λ refusal.
         (p : Program) (given : Answering) (its : ℕ → ModuleContexts) →
         IsMergeable p its linker.now →
@@ -119,16 +119,16 @@ fn joined_of<'a>(
         IsMergeable p its linker.now →
         IsPrepared p (hooks_by given) its contexts.now.next prepared →
         places.now.keys ≡ linker.now.linked.list.items →
-        map items_of copies.now
+        map module_item_lists copies.now
         ≡ items_of_each (Parts.in_order prepared) linker.now.linked.list.items →
-        IsMerged (λ x. x) (λ m. (its m).local) p (hooks_by given) (tree.joined (items_of made.0))) }
-    ensures refused { IfErr result (MayRefuse contexts.now.file linker.now.modules.items) }
+        IsMerged (λ x. x) (λ m. (its m).local) p (hooks_by given) (tree.joined_items (module_item_lists made.0))) }
+    ensures refused { IfErr result (MayRefuseMerge contexts.now.file linker.now.modules.items) }
     ensures lacks { IfErr result (λ refusal.
         (p : Program) (given : Answering) (its : ℕ → ModuleContexts) (prepared : Parts.Parts) →
         IsMergeable p its linker.now →
         IsPrepared p (hooks_by given) its contexts.now.next prepared →
         places.now.keys ≡ linker.now.linked.list.items →
-        map items_of copies.now
+        map module_item_lists copies.now
         ≡ items_of_each (Parts.in_order prepared) linker.now.linked.list.items →
         MayLack p (hooks_by given) contexts.now.file contexts.now.next refusal) }
 {
@@ -146,8 +146,8 @@ fn read_all<'a, 'x>(
     linker: &Linker<'a>,
     places: &IndexSet<ModuleId>,
     copies: &'x [Module],
-) -> Result<Vec<Read<'x>>, Error>
-    ensures refused { IfErr result (IsRefusalOfOne linker.now.modules.items) }
+) -> Result<Vec<ReadModule<'x>>, Error>
+    ensures refused { IfErr result (IsMergeRefusal linker.now.modules.items) }
     ensures told { IfErr result (λ refusal.
         AreAllKnown linker.now linker.now.linked.list.items →
         length copies.now ≡ length linker.now.linked.list.items →
@@ -176,7 +176,7 @@ fn module_at<'t, 'a>(
 ) -> Option<&'t TransformedModule<'a>>
     ensures found { IfSome result (λ its. Contains linker.now.modules.items its.now) }
     ensures known { (m : ℕ) (known : transformed.TransformedModule) →
-        slice_get list.now place ≡ Some m → IsKnown linker.now m known →
+        slice_get list.now place ≡ Some m → IsModuleKnown linker.now m known →
         option_map (λ its. its.now) result ≡ Some known }
 {
     linker.module(*list.get(place)?)
@@ -186,12 +186,12 @@ fn module_at<'t, 'a>(
 fn merged_of<'a, 'x>(
     alloc: Global,
     linker: &Linker<'a>,
-    reads: &[Read<'x>],
+    reads: &[ReadModule<'x>],
     next: u32,
-) -> Result<Merged, MergeError>
+) -> Result<MergedModule, MergeError>
     ensures merged { IfOk result (λ merged. (p : Program) (given : Answering) (local : ℕ → ℕ) →
         AreReadIn p (hooks_by given) linker.now local next reads.now →
-        IsMerged (λ x. x) local p (hooks_by given) (tree.joined (items_of merged.«module»))) }
+        IsMerged (λ x. x) local p (hooks_by given) (tree.joined_items (module_item_lists merged.tree))) }
     ensures taken { IfOk result (λ merged. (p : Program) (given : Answering) (local : ℕ → ℕ) →
         AreReadIn p (hooks_by given) linker.now local next reads.now →
         position merged.contexts ≡ 4294967296 →
@@ -209,7 +209,7 @@ fn merged_of<'a, 'x>(
 fn linking_of<'a, 'x>(
     alloc: Global,
     linker: &Linker<'a>,
-    reads: &[Read<'x>],
+    reads: &[ReadModule<'x>],
 ) -> Result<Linking<'x>, AllocError>
     ensures { IfOk result (IsLinkedRead linker.now reads.now) }
 {
@@ -220,7 +220,7 @@ fn linking_of<'a, 'x>(
 // The modules as they are linked.
 fn link_modules<'t, 'x>(
     alloc: Global,
-    reads: &'t [Read<'x>],
+    reads: &'t [ReadModule<'x>],
 ) -> Result<Vec<LinkModule<'t, 'x>>, AllocError>
     ensures { IfOk result (λ links. AllZip IsLinkRead reads.entry.now links.items) }
 {
@@ -234,16 +234,16 @@ fn link_modules<'t, 'x>(
 // The same, where this is what their names stand for, and these are their blocks.
 fn merged_by<'x>(
     alloc: Global,
-    reads: &[Read<'x>],
+    reads: &[ReadModule<'x>],
     linking: &Linking<'x>,
     blocks: &[Block],
     next: u32,
-) -> Result<Merged, MergeError>
+) -> Result<MergedModule, MergeError>
     ensures made { IfOk result (IsMadeOfRead reads.now linking.now blocks.now next) }
     ensures refused { IfErr result (MayRefuseRead reads.now linking.now blocks.now next) }
 {
     let parts = parts_of(alloc, reads)?;
-    let bundle = BundleParts {
+    let bundle = BundleInput {
         parts: &parts,
         answers: &[],
         linking,
@@ -254,7 +254,10 @@ fn merged_by<'x>(
 }
 
 // The modules as they are merged.
-fn parts_of<'t, 'x>(alloc: Global, reads: &'t [Read<'x>]) -> Result<Vec<Part<'t, 'x>>, AllocError>
+fn parts_of<'t, 'x>(
+    alloc: Global,
+    reads: &'t [ReadModule<'x>],
+) -> Result<Vec<BundleModule<'t, 'x>>, AllocError>
     ensures { IfOk result (λ parts. AllZip IsPartRead reads.entry.now parts.items) }
 {
     let mut parts = Vec::new(alloc);
@@ -265,14 +268,14 @@ fn parts_of<'t, 'x>(alloc: Global, reads: &'t [Read<'x>]) -> Result<Vec<Part<'t,
 }
 
 // The module of what was merged, and the next context.
-fn with_next(merged: Merged, contexts: &Contexts) -> Result<(Module, u32), Error>
+fn with_next(merged: MergedModule, contexts: &Contexts) -> Result<(Module, u32), Error>
     ensures given { IfOk result (λ made. contexts.now.next ≤ made.1) }
-    ensures made { IfOk result (λ made. made.0 ≡ merged.«module») }
+    ensures made { IfOk result (λ made. made.0 ≡ merged.tree) }
     ensures refused { IfErr result (IsLack contexts.now.file) }
     ensures after { IfErr result (IsLackAfter contexts.now.file merged.contexts) }
 {
     match merged.contexts.next() {
-        Some(next) => Ok((merged.module, next.max(contexts.next()))),
+        Some(next) => Ok((merged.tree, next.max(contexts.next()))),
         None => Err(lack_of_contexts(contexts.file())?),
     }
 }

@@ -4,8 +4,8 @@ ghost use Rattle.std.specs.Prelude.{◌≡◌, [], IfOk, OnOk, map, replicate};
 ghost use Rattle.bundle_tree_listed.specs.Tree.{module_item_items};
 ghost use Rattle.bundle_rules.specs.Nodes.{numbers_once};
 ghost use Rattle.bundle_rules.specs.Parts.{in_order};
-ghost use Rattle.bundle_link_index.specs.Numbered.{IsOnce};
-ghost use Rattle.bundle_merge_items.specs.Added.{items_of};
+ghost use Rattle.bundle_link_index.specs.Numbered.{HasNoDoubles};
+ghost use Rattle.bundle_merge_items.specs.Added.{module_item_lists};
 ghost use Rattle.bundle_merge.specs.Prepared.{items_of_each, with_one};
 
 use bundle_merge_modules::Modules;
@@ -32,8 +32,8 @@ pub(crate) fn copies_of(
     places: &IndexSet<ModuleId>,
     prepared: &Modules,
 ) -> Result<Vec<Module>, AllocError>
-    ensures { IfOk result (λ copies. IsOnce places.now.keys →
-        map items_of copies.items ≡ items_of_each (in_order prepared.now) places.now.keys) }
+    ensures { IfOk result (λ copies. HasNoDoubles places.now.keys →
+        map module_item_lists copies.items ≡ items_of_each (in_order prepared.now) places.now.keys) }
 {
     let mut copies = empty_modules(alloc, places.len())?;
     for (id, item) in prepared.iter() {
@@ -46,7 +46,7 @@ pub(crate) fn copies_of(
 
 // So many modules without items.
 fn empty_modules(alloc: Global, count: usize) -> Result<Vec<Module>, AllocError>
-    ensures { IfOk result (λ modules. map items_of modules.items ≡ replicate count []) }
+    ensures { IfOk result (λ modules. map module_item_lists modules.items ≡ replicate count []) }
 {
     let mut modules = Vec::new(alloc);
     for _ in 0..count {
@@ -64,8 +64,8 @@ fn add_copy(
     place: usize,
     item: &ModuleItem,
 ) -> Result<(), AllocError>
-    ensures { OnOk result (map items_of copies.new.items
-        ≡ with_one place (module_item_items 0 item.now) (map items_of copies.old.items)) }
+    ensures { OnOk result (map module_item_lists copies.new.items
+        ≡ with_one place (module_item_items 0 item.now) (map module_item_lists copies.old.items)) }
 {
     if let Some(module) = copies.get_mut(place) {
         module.body.push(rebuild_item(alloc, item, &[])?)?;

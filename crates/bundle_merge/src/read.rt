@@ -3,8 +3,8 @@
 
 ghost use Rattle.std.specs.Prelude.{◌≡◌, ◌∷◌, [], IfErr, IfOk, drop, map, option_map, take, if◌then◌else◌};
 ghost use Rattle.bundle_tree_names.specs.FileName.{name_of};
-ghost use Rattle.bundle_tree_piece.specs.Item as h;
-ghost use Rattle.bundle_tree_piece.specs.Item.{item_of};
+ghost use Rattle.bundle_syntax.specs.Item as h;
+ghost use Rattle.bundle_syntax.specs.Item.{item_of};
 ghost use Rattle.bundle_tree_listed.specs.Tree.{node};
 ghost use Rattle.bundle_tree_places.specs.Marks.{ident_of};
 ghost use Rattle.bundle_rules.specs.Entries as entries;
@@ -14,20 +14,20 @@ ghost use Rattle.bundle_rules.specs.Scopes as scopes;
 ghost use Rattle.bundle_scope_denote.specs.Kinds.{kind_as};
 ghost use Rattle.bundle_link.specs.Programs.{IsLinkerOf};
 ghost use Rattle.bundle_link.specs.Refusals.{IsTreeRefusal};
-ghost use Rattle.bundle_merge_names.specs.declared.part.Part as part;
+ghost use Rattle.bundle_merge_names.specs.declared.part.BundleModule as part;
 ghost use Rattle.bundle_merge.specs.Handed.{IsLinkRead, IsPartRead};
-ghost use Rattle.bundle_merge.specs.Read.{IsReadOf, first_declared, held_by, own_list};
+ghost use Rattle.bundle_merge.specs.Read.{IsReadModuleOf, first_declared, name_held, own_list};
 
+use bundle_link::leads_of;
 use bundle_link::link::{Linker, TransformedModule};
-use bundle_link_reached::leads_of;
 use bundle_link_tables::Tables;
 use bundle_link_targets::LinkModule;
-use bundle_merge_items::Part;
+use bundle_merge_items::BundleModule;
 use bundle_scope_denote::{Denotations, ModuleKind, Reading, denotations};
+use bundle_syntax::{Node, Piece, Role};
 use bundle_tree_ast::{Module, ModuleItem};
 use bundle_tree_list::pieces;
 use bundle_tree_names::{Error, ModuleId};
-use bundle_tree_piece::{Node, Piece, Role};
 use bundle_tree_places::Name;
 use bundle_tree_places::nodes::has_import_meta;
 use indexmap::IndexSet;
@@ -37,7 +37,7 @@ use std::collections::BTreeMap;
 /// A module as it was read: its items, what they say, where its requests lead, and the context of the names of its
 /// top.
 #[derive(Drop)]
-pub(crate) struct Read<'x> {
+pub(crate) struct ReadModule<'x> {
     items: &'x [ModuleItem],
     /// The name that the first of the items declares, where it is the statement that holds its `import.meta`.
     written: Option<Name<'x>>,
@@ -51,12 +51,12 @@ pub(crate) struct Read<'x> {
 /// The name that the first of a module's items declares, where it is the statement that holds its `import.meta`; and the
 /// list of a module of the others.
 #[derive(Drop)]
-struct Own<'x> {
+struct OwnItems<'x> {
     written: Option<Name<'x>>,
     pieces: Vec<Piece<'x>>,
 }
 
-impl<'x> Read<'x> {
+impl<'x> ReadModule<'x> {
     /// The module as one that is linked.
     pub(crate) fn link_module<'t>(&'t self) -> LinkModule<'t, 'x>
         ensures { IsLinkRead self.now result }
@@ -68,10 +68,10 @@ impl<'x> Read<'x> {
     }
 
     /// The module as one that is merged.
-    pub(crate) fn part<'t>(&'t self) -> Part<'t, 'x>
+    pub(crate) fn part<'t>(&'t self) -> BundleModule<'t, 'x>
         ensures { IsPartRead self.now result }
     {
-        Part {
+        BundleModule {
             items: self.items,
             denotations: &self.names,
             tables: &self.tables,
@@ -88,20 +88,20 @@ pub(crate) fn read_module<'a, 'x>(
     linker: &Linker<'a>,
     known: &TransformedModule<'a>,
     places: &IndexSet<ModuleId>,
-    module: &'x Module,
-) -> Result<Read<'x>, Error>
+    tree: &'x Module,
+) -> Result<ReadModule<'x>, Error>
     ensures refused { IfErr result
-        (IsTreeRefusal (name_of known.now.file_name) (own_list «module».now.body.items)) }
-    ensures read { IfOk result (λ read. (part : part.Part) → IsPartRead read part →
-        IsReadOf linker.now known.now places.now.keys «module».now.body.items part) }
+        (IsTreeRefusal (name_of known.now.file_name) (own_list tree.now.body.items)) }
+    ensures read { IfOk result (λ read. (part : part.BundleModule) → IsPartRead read part →
+        IsReadModuleOf linker.now known.now places.now.keys tree.now.body.items part) }
 {
-    let own = own_of(alloc, &module.body)?;
+    let own = own_of(alloc, &tree.body)?;
     let tables = linker.tables_of(&known.file_name, &own.pieces)?;
     let kind = kind_of(linker, known.id);
     let names = denotations(alloc, &own.pieces, kind, Reading::BySymbol)?;
     let leads = leads_of(alloc, &known.deps, places)?;
-    Ok(Read {
-        items: module.body.as_slice(),
+    Ok(ReadModule {
+        items: tree.body.as_slice(),
         written: own.written,
         names,
         tables,
@@ -123,8 +123,8 @@ fn kind_of<'a>(linker: &Linker<'a>, id: ModuleId) -> ModuleKind
 }
 
 // What a module's prepared items are. Where `import.meta` stands in them the first is the statement that holds it.
-fn own_of<'x>(alloc: Global, items: &'x [ModuleItem]) -> Result<Own<'x>, AllocError>
-    ensures written { IfOk result (λ own. option_map ident_of own.written ≡ held_by items.now) }
+fn own_of<'x>(alloc: Global, items: &'x [ModuleItem]) -> Result<OwnItems<'x>, AllocError>
+    ensures written { IfOk result (λ own. option_map ident_of own.written ≡ name_held items.now) }
     ensures list { IfOk result (λ own. map item_of own.pieces.items ≡ own_list items.now) }
 {
     let all = pieces(alloc, items)?;
@@ -132,7 +132,7 @@ fn own_of<'x>(alloc: Global, items: &'x [ModuleItem]) -> Result<Own<'x>, AllocEr
     let written = name_in(&front);
     let own = if written.is_some() { front.len() } else { 0 };
     let pieces = module_list(alloc, behind(all.as_slice(), own))?;
-    Ok(Own { written, pieces })
+    Ok(OwnItems { written, pieces })
 }
 
 // The first of a module's items, where `import.meta` stands in them, and this is their list.

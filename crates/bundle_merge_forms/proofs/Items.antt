@@ -1,15 +1,15 @@
 -- The items that are added have their forms.
 use Rattle.std.proofs.Common.{◌≡◌, ◌∙◌, ap, refl, List, [], ◌∷◌, ◌++◌, append_assoc, false, subst, sym}
-use Rattle.bundle_tree_leaf.specs.declared.kind.VarDeclKind.TheVariants.{Var}
-use Rattle.bundle_tree_piece.specs.declared.piece.Role.TheVariants.{Binding, Reference}
-use Rattle.bundle_tree_piece.specs.Item as h
-use Rattle.bundle_tree_piece.specs.Item.{Item}
+use Rattle.bundle_syntax.specs.declared.kind.VarDeclKind.TheVariants.{Var}
+use Rattle.bundle_syntax.specs.declared.piece.Role.TheVariants.{Binding, Reference}
+use Rattle.bundle_syntax.specs.Item as h
+use Rattle.bundle_syntax.specs.Item.{Item}
 use Rattle.bundle_rules.specs.Nodes.{Text}
 use Rattle.bundle_rules.specs.Idents.{Ident}
 use Rattle.bundle_rules.specs.Statements.{no_notes}
 use Rattle.bundle_rules.specs.Forms.{IsHelperItem, IsLoadItem, IsNamespaceItem}
 use Rattle.bundle_merge_injected.specs.Listed.{helper_function, load_function, namespace_object, named, pattern_of, parameter}
-use Rattle.bundle_merge_forms.specs.Named.{AreApart, injected}
+use Rattle.bundle_merge_forms.specs.Named.{AreExportsApart, injected}
 use Rattle.bundle_merge_forms.proofs.Objects.{namespace_is_built}
 
 -- what stands in front of the statements of a load function
@@ -33,7 +33,7 @@ helper_item helper fn its_module items is = subst (IsHelperItem helper fn its_mo
 pub load_item : (load helper its_module its_exports : Ident) (stmts items : List Item) → items ≡ load_function load helper its_module its_exports stmts → IsLoadItem load helper its_module its_exports stmts items
 load_item load helper its_module its_exports stmts items is = subst (IsLoadItem load helper its_module its_exports stmts) (sym is) (load_is_built load helper its_module its_exports stmts)
 
-pub namespace_item : (object : Ident) (pairs : List (Text × Ident)) (items : List Item) → items ≡ namespace_object injected object pairs → AreApart pairs → IsNamespaceItem object pairs items
+pub namespace_item : (object : Ident) (pairs : List (Text × Ident)) (items : List Item) → items ≡ namespace_object injected object pairs → AreExportsApart pairs → IsNamespaceItem object pairs items
 namespace_item object pairs items is apart = subst (IsNamespaceItem object pairs) (sym is) (namespace_is_built object pairs apart)
 
 -- the same of names that stand for these identifiers

@@ -1,5 +1,2 @@
 mod Items
 mod Objects
-mod Quiet
-mod Body
-mod Order

@@ -2,7 +2,7 @@
 use Rattle.std.specs.Prelude.{◌≢◌, true, List, None, String, string_bytes}
 use Rattle.std.specs.Global.{Global}
 use Rattle.std.specs.List.{AllPairs}
-use Rattle.bundle_tree_leaf.specs.declared.kind.ExportMetadata.{ExportMetadata}
+use Rattle.bundle_syntax.specs.declared.kind.ExportMetadata.{ExportMetadata}
 use Rattle.bundle_rules.specs.Nodes.{Text}
 use Rattle.bundle_rules.specs.Idents.{Ident}
 use Rattle.bundle_tree.specs.IdName.{IdName}
@@ -16,8 +16,8 @@ abbrev pub prop_of : String Global × IdName → Text × Ident
 prop_of prop = (string_bytes prop.0, id_ident prop.1)
 
 -- no two have one name
-abbrev pub AreApart : List (Text × Ident) → Type 0
-AreApart pairs = AllPairs (λ first second. first.0 ≢ second.0) pairs
+abbrev pub AreExportsApart : List (Text × Ident) → Type 0
+AreExportsApart pairs = AllPairs (λ first second. first.0 ≢ second.0) pairs
 
 -- noted as the linker's own
 abbrev pub injected : ExportMetadata

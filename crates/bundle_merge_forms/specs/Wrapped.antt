@@ -3,25 +3,25 @@ use Rattle.std.specs.Prelude.{◌≡◌, List, [], ◌∷◌, ◌++◌, Option, 
 use Rattle.std.specs.Global.{Global}
 use Rattle.std.specs.List.{All}
 use Rattle.std.specs.declared.vec.Vec.{Vec}
-use Rattle.bundle_tree_leaf.specs.declared.ident.Ident as v_ident
-use Rattle.bundle_tree_leaf.specs.declared.kind.ExportMetadata.{ExportMetadata}
-use Rattle.bundle_tree_leaf.specs.declared.specifier.ExportSpecifier.{ExportSpecifier}
-use Rattle.bundle_tree_leaf.specs.declared.specifier.ExportSpecifier.TheVariants.{ExportNamedSpecifier}
-use Rattle.bundle_tree_leaf.specs.declared.specifier.ModuleExportName.{ModuleExportName}
-use Rattle.bundle_tree_leaf.specs.declared.specifier.ModuleExportName.TheVariants as export_name
+use Rattle.bundle_syntax.specs.declared.ident.Ident as v_ident
+use Rattle.bundle_syntax.specs.declared.kind.ExportMetadata.{ExportMetadata}
+use Rattle.bundle_syntax.specs.declared.specifier.ExportSpecifier.{ExportSpecifier}
+use Rattle.bundle_syntax.specs.declared.specifier.ExportSpecifier.TheVariants.{ExportNamedSpecifier}
+use Rattle.bundle_syntax.specs.declared.specifier.ModuleExportName.{ModuleExportName}
+use Rattle.bundle_syntax.specs.declared.specifier.ModuleExportName.TheVariants as export_name
 use Rattle.bundle_tree_ast.specs.declared.module.ModuleItem.{ModuleItem}
 use Rattle.bundle_tree_ast.specs.declared.module.ModuleItem.TheVariants as item
 use Rattle.bundle_tree_ast.specs.declared.module.ModuleDecl.TheVariants.{NamedExport}
 use Rattle.bundle_tree_ast.specs.declared.stmt.Stmt.{Stmt}
-use Rattle.bundle_tree_piece.specs.Item.{Item}
+use Rattle.bundle_syntax.specs.Item.{Item}
 use Rattle.bundle_tree_listed.specs.Tree.{stmt_items}
 use Rattle.bundle_rules.specs.Nodes.{Text}
 use Rattle.bundle_rules.specs.Idents.{Ident}
 
 -- the list of an item that is a statement
-abbrev pub stated : ModuleItem → List Item
-stated (item.Stmt it) = stmt_items 0 it
-stated (item.ModuleDecl it) = []
+abbrev pub statement_items : ModuleItem → List Item
+statement_items (item.Stmt it) = stmt_items 0 it
+statement_items (item.ModuleDecl it) = []
 
 -- the specifiers of an item that is a list of exports without `from`
 abbrev pub specifiers_of : ModuleItem → List ExportSpecifier
@@ -29,14 +29,14 @@ specifiers_of (item.ModuleDecl (NamedExport specifiers None meta)) = specifiers.
 specifiers_of _ = []
 
 -- the name under which an identifier is exported: its own where no other is written
-abbrev pub exported_name : Option ModuleExportName → v_ident.Ident → Text
-exported_name None l = string_bytes l.sym
-exported_name (Some (export_name.Ident name)) l = string_bytes name.sym
-exported_name (Some (export_name.Str name)) l = string_bytes name.value
+abbrev pub exported_under : Option ModuleExportName → v_ident.Ident → Text
+exported_under None l = string_bytes l.sym
+exported_under (Some (export_name.Ident name)) l = string_bytes name.sym
+exported_under (Some (export_name.Str name)) l = string_bytes name.value
 
 -- what a specifier of an identifier gives: the name, with the identifier
 abbrev pub given_by : ExportSpecifier → List (Text × Ident)
-given_by (ExportNamedSpecifier (export_name.Ident l) name) = (exported_name name l, (string_bytes l.sym, l.ctxt)) ∷ []
+given_by (ExportNamedSpecifier (export_name.Ident l) name) = (exported_under name l, (string_bytes l.sym, l.ctxt)) ∷ []
 given_by _ = []
 
 -- what a list of exports gives
@@ -50,15 +50,15 @@ pub record IsOfIdent (specifier : ExportSpecifier) : Type 0 where
   pub is : specifier ≡ ExportNamedSpecifier (export_name.Ident ident) name
 
 -- no item, or one list of exports without `from`, of identifiers
-pub data Ends : List ModuleItem → Type 0 where
-  nothing : Ends []
+pub data EndsInExports : List ModuleItem → Type 0 where
+  nothing : EndsInExports []
   exports : (specifiers : Vec ExportSpecifier Global) (meta : ExportMetadata) →
       All IsOfIdent specifiers.items →
-      Ends (item.ModuleDecl (NamedExport specifiers None meta) ∷ [])
+      EndsInExports (item.ModuleDecl (NamedExport specifiers None meta) ∷ [])
 
 -- statements, and behind them perhaps a list of exports of the module's own names
 pub record CanBeWrapped (items : List ModuleItem) : Type 0 where
   pub stmts : List Stmt
   pub last : List ModuleItem
   pub is : items ≡ map item.Stmt stmts ++ last
-  pub ends : Ends last
+  pub ends : EndsInExports last

@@ -3,7 +3,7 @@
 ghost use Rattle.std.specs.Prelude.{◌≡◌, ◌++◌, IfOk, OnOk, flat_map, map, string_bytes};
 ghost use Rattle.bundle_rules.specs.Forms.{by_names};
 ghost use Rattle.bundle_merge_injected.specs.Listed.{pair_of};
-ghost use Rattle.bundle_merge_forms.specs.Wrapped.{exported_in, exported_name, given_by, specifiers_of};
+ghost use Rattle.bundle_merge_forms.specs.Wrapped.{exported_in, exported_under, given_by, specifiers_of};
 
 use bundle_merge_injected::Pair;
 use bundle_tree_ast::{ExportSpecifier, Ident, ModuleDecl, ModuleExportName, ModuleItem};
@@ -92,7 +92,7 @@ fn add_pair<'a>(pairs: &mut Vec<Pair<'a>>, specifier: &'a ExportSpecifier) -> Re
 // The name under which an identifier is exported, with the identifier.
 fn pair_in<'a>(ident: &'a Ident, exported: &'a Option<ModuleExportName>) -> Pair<'a>
     ensures { pair_of result
-        ≡ (exported_name exported.now ident.now, (string_bytes ident.now.sym, ident.now.ctxt)) }
+        ≡ (exported_under exported.now ident.now, (string_bytes ident.now.sym, ident.now.ctxt)) }
 {
     let local = Name {
         sym: ident.sym.as_str(),
@@ -106,7 +106,7 @@ fn pair_in<'a>(ident: &'a Ident, exported: &'a Option<ModuleExportName>) -> Pair
 
 // The name under which an identifier is exported.
 fn name_in<'a>(name: &'a Option<ModuleExportName>, ident: &'a Ident) -> &'a str
-    ensures { result.now ≡ exported_name name.now ident.now }
+    ensures { result.now ≡ exported_under name.now ident.now }
 {
     match name {
         Some(ModuleExportName::Ident(name)) => name.sym.as_str(),

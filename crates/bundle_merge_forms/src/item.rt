@@ -8,7 +8,7 @@ ghost use Rattle.bundle_tree_places.specs.Marks.{ident_of};
 ghost use Rattle.bundle_merge_injected.specs.Listed as Listed;
 ghost use Rattle.bundle_merge_injected.specs.Listed.{helper_function, pair_of};
 ghost use Rattle.bundle_merge_forms.specs.Named as named;
-ghost use Rattle.bundle_merge_forms.specs.Named.{AreApart, id_ident, prop_of};
+ghost use Rattle.bundle_merge_forms.specs.Named.{AreExportsApart, id_ident, prop_of};
 
 use bundle_merge_injected::{
     HelperNames, LoadNames, Pair, helper as helper_function_of, load_function,
@@ -23,17 +23,22 @@ use std::alloc::{AllocError, Global};
 /// The helper by which CommonJS modules are loaded: `function helper(func) { var module; return function () {
 /// if (!module) { module = { exports: {} }; func.call(module.exports, module, module.exports); }
 /// return module.exports; }; }`. The caller sees to it that the names differ. Refused only where memory runs out.
-pub fn helper_item(alloc: Global, helper: Id, func: Id, module: Id) -> Result<ModuleItem, Error>
+pub fn helper_item(
+    alloc: Global,
+    helper: Id,
+    func: Id,
+    module_object: Id,
+) -> Result<ModuleItem, Error>
     ensures listed { IfOk result (λ item. module_item_items 0 item
-        ≡ helper_function (id_ident helper) (id_ident func) (id_ident «module»)) }
+        ≡ helper_function (id_ident helper) (id_ident func) (id_ident module_object)) }
     ensures built { IfOk result (λ item. IsHelperItem (id_ident helper) (id_ident func)
-        (id_ident «module») (module_item_items 0 item)) }
+        (id_ident module_object) (module_item_items 0 item)) }
     ensures refused { IfErr result (λ refusal. refusal ≡ OutOfMemory) }
 {
     let names = HelperNames {
         helper: name_of(&helper),
         func: name_of(&func),
-        module: name_of(&module),
+        module_object: name_of(&module_object),
     };
     let made = helper_function_of(alloc, names)?;
     Ok(ModuleItem::Stmt(made))
@@ -45,22 +50,22 @@ pub fn wrap_cjs_module(
     alloc: Global,
     load: Id,
     helper: Id,
-    module: Id,
+    module_object: Id,
     exports: Id,
     stmts: Vec<Stmt>,
 ) -> Result<ModuleItem, Error>
     ensures listed { IfOk result (λ item. module_item_items 0 item
-        ≡ Listed.load_function (id_ident load) (id_ident helper) (id_ident «module»)
+        ≡ Listed.load_function (id_ident load) (id_ident helper) (id_ident module_object)
         (id_ident exports) (each_stmt_items 0 stmts)) }
     ensures built { IfOk result (λ item. IsLoadItem (id_ident load) (id_ident helper)
-        (id_ident «module») (id_ident exports) (each_stmt_items 0 stmts)
+        (id_ident module_object) (id_ident exports) (each_stmt_items 0 stmts)
         (module_item_items 0 item)) }
     ensures refused { IfErr result (λ refusal. refusal ≡ OutOfMemory) }
 {
     let names = LoadNames {
         load: name_of(&load),
         helper: name_of(&helper),
-        module: name_of(&module),
+        module_object: name_of(&module_object),
         exports: name_of(&exports),
     };
     let made = load_function(alloc, names, stmts)?;
@@ -76,7 +81,7 @@ pub fn namespace_object(
 ) -> Result<ModuleItem, Error>
     ensures listed { IfOk result (λ item. module_item_items 0 item
         ≡ Listed.namespace_object named.injected (id_ident object) (map prop_of props.now)) }
-    ensures built { AreApart (map prop_of props.now) → IfOk result
+    ensures built { AreExportsApart (map prop_of props.now) → IfOk result
         (λ item. IsNamespaceItem (id_ident object) (map prop_of props.now)
         (module_item_items 0 item)) }
     ensures refused { IfErr result (λ refusal. refusal ≡ OutOfMemory) }

@@ -2,12 +2,12 @@
 
 ghost use Rattle.std.specs.Prelude.{◌≡◌, ◌++◌, IfErr, IfOk, flat_map};
 ghost use Rattle.bundle_tree_names.specs.declared.error.Error.TheVariants.{OutOfMemory};
-ghost use Rattle.bundle_tree_piece.specs.Item.{ExprStmt, Module as ModuleHead};
+ghost use Rattle.bundle_syntax.specs.Item.{ExprStmt, Module as ModuleHead};
 ghost use Rattle.bundle_tree_listed.specs.Tree.{module_item_items, module_items, node, stmt_items};
 ghost use Rattle.bundle_rules.specs.Awaits as Awaits;
 ghost use Rattle.bundle_rules.specs.Forms.{by_names, returned_object, wrapped};
 ghost use Rattle.bundle_merge_injected.specs.Listed.{called};
-ghost use Rattle.bundle_merge_forms.specs.Wrapped.{CanBeWrapped, exported_in, stated};
+ghost use Rattle.bundle_merge_forms.specs.Wrapped.{CanBeWrapped, exported_in, statement_items};
 
 use crate::exports::exported;
 use crate::statements::statements;
@@ -22,12 +22,12 @@ use std::alloc::{AllocError, Global};
 /// its list of exports gives, ascending, and the function is async where an `await` or `for await` stands outside
 /// functions (ECMA-262, 13.2.5 and 15.8). The caller sees to it that no import or export stands in the module but
 /// perhaps a list of exports of its own names, as the last item. Refused only where memory runs out.
-pub fn wrap_with_iife(alloc: Global, module: &Module) -> Result<Module, Error>
-    ensures wrapped { CanBeWrapped «module».now.body.items → IfOk result
-        (λ made. module_items 0 made ≡ wrapped (module_items 0 «module».now)) }
+pub fn wrap_with_iife(alloc: Global, tree: &Module) -> Result<Module, Error>
+    ensures wrapped { CanBeWrapped tree.now.body.items → IfOk result
+        (λ made. module_items 0 made ≡ wrapped (module_items 0 tree.now)) }
     ensures refused { IfErr result (λ refusal. refusal ≡ OutOfMemory) }
 {
-    let call = call_of(alloc, module.body.as_slice())?;
+    let call = call_of(alloc, tree.body.as_slice())?;
     let made = module_of(alloc, call)?;
     Ok(made)
 }
@@ -38,7 +38,7 @@ fn call_of(alloc: Global, items: &[ModuleItem]) -> Result<Stmt, AllocError>
         stmt_items 0 made
         ≡ node 0 ExprStmt
         (called (Awaits.awaits_outside (flat_map (module_item_items 0) items.now))
-        (flat_map stated items.now
+        (flat_map statement_items items.now
         ++ returned_object (by_names (flat_map exported_in items.now))))) }
 {
     let is_async = awaits(alloc, items)?;

@@ -1,18 +1,18 @@
 -- What a form is made of, and the list that it has.
 use Rattle.std.proofs.Common.{◌≡◌, ◌∙◌, ℕ, true, false, sym, ap, [], ◌∷◌, bytes_eq, codes, if◌then◌else◌, string_bytes, None}
-use Rattle.bundle_tree_leaf.specs.declared.ident.Ident as v_ident
-use Rattle.bundle_tree_leaf.specs.declared.ident.BindingIdent as v_binding_ident
-use Rattle.bundle_tree_leaf.specs.declared.ident.IdentName as v_ident_name
-use Rattle.bundle_tree_leaf.specs.declared.lit.Str as v_str
-use Rattle.bundle_tree_leaf.specs.declared.lit.Lit.TheVariants as i_lit
+use Rattle.bundle_syntax.specs.declared.ident.Ident as v_ident
+use Rattle.bundle_syntax.specs.declared.ident.BindingIdent as v_binding_ident
+use Rattle.bundle_syntax.specs.declared.ident.IdentName as v_ident_name
+use Rattle.bundle_syntax.specs.declared.lit.Str as v_str
+use Rattle.bundle_syntax.specs.declared.lit.Lit.TheVariants as i_lit
 use Rattle.bundle_tree_ast.specs.declared.prop.ComputedPropName as v_computed
 use Rattle.bundle_tree_ast.specs.declared.prop.PropName.TheVariants as i_prop_name
 use Rattle.bundle_tree_ast.specs.declared.expr.Expr as v_expr
 use Rattle.bundle_tree_ast.specs.declared.pat.Pat as v_pat
-use Rattle.bundle_tree_piece.specs.declared.piece.Role.{Role}
-use Rattle.bundle_tree_piece.specs.declared.piece.Role.TheVariants as r
-use Rattle.bundle_tree_piece.specs.Item as h
-use Rattle.bundle_tree_piece.specs.Item.{Item}
+use Rattle.bundle_syntax.specs.declared.piece.Role.{Role}
+use Rattle.bundle_syntax.specs.declared.piece.Role.TheVariants as r
+use Rattle.bundle_syntax.specs.Item as h
+use Rattle.bundle_syntax.specs.Item.{Item}
 use Rattle.bundle_tree_listed.specs.Tree as k
 use Rattle.bundle_tree_listed.specs.Tree.{node, stmt_items}
 use Rattle.bundle_rules.specs.Nodes.{Text}

@@ -10,7 +10,7 @@ use Rattle.bundle_tree_ast.specs.declared.expr.ExprOrSpread as v_expr_or_spread
 use Rattle.bundle_tree_ast.specs.declared.prop.PropOrSpread as v_prop_or_spread
 use Rattle.bundle_tree_ast.specs.declared.pat.Pat as v_pat
 use Rattle.bundle_tree_ast.specs.declared.class.Param as v_param
-use Rattle.bundle_tree_piece.specs.Item.{Item}
+use Rattle.bundle_syntax.specs.Item.{Item}
 use Rattle.bundle_tree_listed.specs.Tree as k
 use Rattle.bundle_tree_listed.proofs.Rows.{all_param, all_stmt, all_var_declarator, all_prop_or_spread, all_expr_or_spread}
 

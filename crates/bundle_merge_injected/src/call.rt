@@ -1,7 +1,7 @@
 //! A module as the call of one function.
 
 ghost use Rattle.std.specs.Prelude.{◌≡◌, ◌++◌, ℕ, IfOk, false, map};
-ghost use Rattle.bundle_tree_piece.specs.Item.{ExprStmt, FnExpr, Function as FunctionHead, BlockStmt as BlockHead};
+ghost use Rattle.bundle_syntax.specs.Item.{ExprStmt, FnExpr, Function as FunctionHead, BlockStmt as BlockHead};
 ghost use Rattle.bundle_tree_listed.specs.Tree.{each_stmt_items, expr_items, node, stmt_items};
 ghost use Rattle.bundle_rules.specs.Forms.{returned_object};
 ghost use Rattle.bundle_merge_injected.specs.Listed.{called, pair_of};

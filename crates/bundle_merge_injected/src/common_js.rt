@@ -3,10 +3,10 @@
 
 ghost use Rattle.std.specs.Prelude.{◌≡◌, ◌++◌, ℕ, [], IfOk, None, Some, codes, map};
 ghost use Rattle.std.specs.Option.{option_map};
-ghost use Rattle.bundle_tree_leaf.specs.declared.kind.VarDeclKind.TheVariants.{Var};
-ghost use Rattle.bundle_tree_leaf.specs.declared.operator.UnaryOp.TheVariants.{Bang};
-ghost use Rattle.bundle_tree_piece.specs.Item.{BlockStmt as BlockHead, ExprStmt, FnExpr, KeyValueProp as KeyHead, ObjectLit, UnaryExpr, VarDecl};
-ghost use Rattle.bundle_tree_piece.specs.declared.piece.Role.TheVariants.{Binding, Reference};
+ghost use Rattle.bundle_syntax.specs.declared.kind.VarDeclKind.TheVariants.{Var};
+ghost use Rattle.bundle_syntax.specs.declared.operator.UnaryOp.TheVariants.{Bang};
+ghost use Rattle.bundle_syntax.specs.Item.{BlockStmt as BlockHead, ExprStmt, FnExpr, KeyValueProp as KeyHead, ObjectLit, UnaryExpr, VarDecl};
+ghost use Rattle.bundle_syntax.specs.declared.piece.Role.TheVariants.{Binding, Reference};
 ghost use Rattle.bundle_tree_listed.specs.Tree.{each_expr_or_spread_items, each_stmt_items, expr_items, function_items, node, object_pat_prop_items, pat_items, prop_or_spread_items, stmt_items, var_declarator_items};
 ghost use Rattle.bundle_rules.specs.Statements.{no_notes};
 ghost use Rattle.bundle_tree_places.specs.Marks.{ident_of};
@@ -186,7 +186,7 @@ fn load_property<'a>(alloc: Global, pair: Pair<'a>) -> Result<ObjectPatProp, All
 pub struct LoadNames<'a> {
     pub load: Name<'a>,
     pub helper: Name<'a>,
-    pub module: Name<'a>,
+    pub module_object: Name<'a>,
     pub exports: Name<'a>,
 }
 
@@ -200,7 +200,7 @@ pub fn load_function<'a>(
     ensures { IfOk result (λ made.
         stmt_items 0 made
         ≡ listed.load_function (ident_of names.entry.load) (ident_of names.entry.helper)
-        (ident_of names.entry.module) (ident_of names.entry.exports) (each_stmt_items 0 stmts)) }
+        (ident_of names.entry.module_object) (ident_of names.entry.exports) (each_stmt_items 0 stmts)) }
 {
     let value = load_value(alloc, names, stmts)?;
     let name = pattern(alloc, names.load)?;
@@ -211,7 +211,7 @@ pub fn load_function<'a>(
 fn load_value<'a>(alloc: Global, names: LoadNames<'a>, stmts: Vec<Stmt>) -> Result<Expr, AllocError>
     ensures { IfOk result (λ made. (field : ℕ) → expr_items field made
         ≡ call_in field (named 0 Reference (ident_of names.entry.helper)) (listed.load_argument
-        (ident_of names.entry.module) (ident_of names.entry.exports) (each_stmt_items 0 stmts))) }
+        (ident_of names.entry.module_object) (ident_of names.entry.exports) (each_stmt_items 0 stmts))) }
 {
     let callee = reference(alloc, names.helper)?;
     let args = load_argument(alloc, names, stmts)?;
@@ -225,9 +225,9 @@ fn load_argument<'a>(
     stmts: Vec<Stmt>,
 ) -> Result<Vec<ExprOrSpread>, AllocError>
     ensures { IfOk result (λ made. each_expr_or_spread_items 1 made ≡ listed.load_argument
-        (ident_of names.entry.module) (ident_of names.entry.exports) (each_stmt_items 0 stmts)) }
+        (ident_of names.entry.module_object) (ident_of names.entry.exports) (each_stmt_items 0 stmts)) }
 {
-    let params = parameters(alloc, &[names.module, names.exports])?;
+    let params = parameters(alloc, &[names.module_object, names.exports])?;
     one_argument(alloc, function(params, stmts))
 }
 
@@ -236,7 +236,7 @@ fn load_argument<'a>(
 pub struct HelperNames<'a> {
     pub helper: Name<'a>,
     pub func: Name<'a>,
-    pub module: Name<'a>,
+    pub module_object: Name<'a>,
 }
 
 /// `function helper(func) { var module; return function () { if (!module) { module = { exports: {} };
@@ -246,7 +246,7 @@ pub fn helper<'a>(alloc: Global, names: HelperNames<'a>) -> Result<Stmt, AllocEr
     ensures { IfOk result (λ made.
         stmt_items 0 made
         ≡ listed.helper_function (ident_of names.entry.helper) (ident_of names.entry.func)
-        (ident_of names.entry.module)) }
+        (ident_of names.entry.module_object)) }
 {
     let function = helper_function(alloc, names)?;
     let ident = ident(alloc, names.helper)?;
@@ -257,7 +257,7 @@ pub fn helper<'a>(alloc: Global, names: HelperNames<'a>) -> Result<Stmt, AllocEr
 fn helper_function<'a>(alloc: Global, names: HelperNames<'a>) -> Result<Function, AllocError>
     ensures { IfOk result (λ made. function_items 1 made
         ≡ function_in 1 (parameter (ident_of names.entry.func))
-        (listed.helper_body (ident_of names.entry.func) (ident_of names.entry.module))) }
+        (listed.helper_body (ident_of names.entry.func) (ident_of names.entry.module_object))) }
 {
     let stmts = helper_body(alloc, names)?;
     let params = parameters(alloc, &[names.func])?;
@@ -272,9 +272,9 @@ fn helper_function<'a>(alloc: Global, names: HelperNames<'a>) -> Result<Function
 // `var module; return function () { .. };`
 fn helper_body<'a>(alloc: Global, names: HelperNames<'a>) -> Result<Vec<Stmt>, AllocError>
     ensures { IfOk result (λ made. each_stmt_items 0 made
-        ≡ listed.helper_body (ident_of names.entry.func) (ident_of names.entry.module)) }
+        ≡ listed.helper_body (ident_of names.entry.func) (ident_of names.entry.module_object)) }
 {
-    let first = bare_variable(alloc, names.module)?;
+    let first = bare_variable(alloc, names.module_object)?;
     let loader = loader(alloc, names)?;
     two_stmts(alloc, first, Stmt::ReturnStmt { arg: Some(loader) })
 }
@@ -282,8 +282,8 @@ fn helper_body<'a>(alloc: Global, names: HelperNames<'a>) -> Result<Vec<Stmt>, A
 // `function () { if (!module) { .. } return module.exports; }`
 fn loader<'a>(alloc: Global, names: HelperNames<'a>) -> Result<Expr, AllocError>
     ensures { IfOk result (λ made. expr_items 0 made ≡ node 0 FnExpr
-        (function_in 1 [] (loads_once (ident_of names.entry.func) (ident_of names.entry.module)
-        ++ returns_exports (ident_of names.entry.module)))) }
+        (function_in 1 [] (loads_once (ident_of names.entry.func) (ident_of names.entry.module_object)
+        ++ returns_exports (ident_of names.entry.module_object)))) }
 {
     let once = load_once(alloc, names)?;
     let exports = exports_of(alloc, names)?;
@@ -294,7 +294,7 @@ fn loader<'a>(alloc: Global, names: HelperNames<'a>) -> Result<Expr, AllocError>
 // `if (!module) { module = { exports: {} }; func.call(module.exports, module, module.exports); }`
 fn load_once<'a>(alloc: Global, names: HelperNames<'a>) -> Result<Stmt, AllocError>
     ensures { IfOk result (λ made. stmt_items 0 made
-        ≡ loads_once (ident_of names.entry.func) (ident_of names.entry.module)) }
+        ≡ loads_once (ident_of names.entry.func) (ident_of names.entry.module_object)) }
 {
     let test = not_loaded(alloc, names)?;
     let cons = first_load(alloc, names)?;
@@ -308,9 +308,9 @@ fn load_once<'a>(alloc: Global, names: HelperNames<'a>) -> Result<Stmt, AllocErr
 // `!module`
 fn not_loaded<'a>(alloc: Global, names: HelperNames<'a>) -> Result<Expr, AllocError>
     ensures { IfOk result (λ made. expr_items 0 made
-        ≡ node 0 (UnaryExpr Bang) (named 1 Reference (ident_of names.entry.module))) }
+        ≡ node 0 (UnaryExpr Bang) (named 1 Reference (ident_of names.entry.module_object))) }
 {
-    let arg = boxed_reference(alloc, names.module)?;
+    let arg = boxed_reference(alloc, names.module_object)?;
     let op = UnaryOp::Bang;
     Ok(Expr::UnaryExpr { op, arg })
 }
@@ -318,8 +318,8 @@ fn not_loaded<'a>(alloc: Global, names: HelperNames<'a>) -> Result<Expr, AllocEr
 // `{ module = { exports: {} }; func.call(module.exports, module, module.exports); }`
 fn first_load<'a>(alloc: Global, names: HelperNames<'a>) -> Result<Box<Stmt>, AllocError>
     ensures { IfOk result (λ made. stmt_items 1 made.value ≡ node 1 BlockHead
-        (makes_module (ident_of names.entry.module)
-        ++ runs_module (ident_of names.entry.func) (ident_of names.entry.module))) }
+        (makes_module (ident_of names.entry.module_object)
+        ++ runs_module (ident_of names.entry.func) (ident_of names.entry.module_object))) }
 {
     let make = make_module(alloc, names)?;
     let run = run_module(alloc, names)?;
@@ -331,9 +331,9 @@ fn first_load<'a>(alloc: Global, names: HelperNames<'a>) -> Result<Box<Stmt>, Al
 // `module = { exports: {} };`
 fn make_module<'a>(alloc: Global, names: HelperNames<'a>) -> Result<Stmt, AllocError>
     ensures { IfOk result (λ made.
-        stmt_items 0 made ≡ makes_module (ident_of names.entry.module)) }
+        stmt_items 0 made ≡ makes_module (ident_of names.entry.module_object)) }
 {
-    let id = ident(alloc, names.module)?;
+    let id = ident(alloc, names.module_object)?;
     let right = empty_module(alloc)?;
     Ok(Stmt::ExprStmt {
         expr: Expr::AssignExpr {
@@ -369,7 +369,7 @@ fn empty_exports(alloc: Global) -> Result<PropOrSpread, AllocError>
 // `func.call(module.exports, module, module.exports);`
 fn run_module<'a>(alloc: Global, names: HelperNames<'a>) -> Result<Stmt, AllocError>
     ensures { IfOk result (λ made. stmt_items 0 made
-        ≡ runs_module (ident_of names.entry.func) (ident_of names.entry.module)) }
+        ≡ runs_module (ident_of names.entry.func) (ident_of names.entry.module_object)) }
 {
     let callee = member(alloc, names.func, "call")?;
     let args = run_arguments(alloc, names)?;
@@ -380,10 +380,10 @@ fn run_module<'a>(alloc: Global, names: HelperNames<'a>) -> Result<Stmt, AllocEr
 // `module.exports, module, module.exports`
 fn run_arguments<'a>(alloc: Global, names: HelperNames<'a>) -> Result<Vec<ExprOrSpread>, AllocError>
     ensures { IfOk result (λ made. each_expr_or_spread_items 1 made
-        ≡ listed.run_arguments (ident_of names.entry.module)) }
+        ≡ listed.run_arguments (ident_of names.entry.module_object)) }
 {
     let first = exports_of(alloc, names)?;
-    let own = reference(alloc, names.module)?;
+    let own = reference(alloc, names.module_object)?;
     let last = exports_of(alloc, names)?;
     let args = vec![in alloc; argument(first), argument(own), argument(last)]?;
     Ok(args)
@@ -392,9 +392,9 @@ fn run_arguments<'a>(alloc: Global, names: HelperNames<'a>) -> Result<Vec<ExprOr
 // `module.exports`
 fn exports_of<'a>(alloc: Global, names: HelperNames<'a>) -> Result<Expr, AllocError>
     ensures { IfOk result (λ made. (field : ℕ) → expr_items field made
-        ≡ listed.member field (ident_of names.entry.module) (codes "exports")) }
+        ≡ listed.member field (ident_of names.entry.module_object) (codes "exports")) }
 {
-    member(alloc, names.module, "exports")
+    member(alloc, names.module_object, "exports")
 }
 
 // `name.sym`

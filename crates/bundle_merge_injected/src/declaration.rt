@@ -1,9 +1,9 @@
 //! Declarations.
 
 ghost use Rattle.std.specs.Prelude.{◌≡◌, ◌++◌, IfOk};
-ghost use Rattle.bundle_tree_leaf.specs.declared.kind.VarDeclKind.TheVariants.{Var as VarKind};
-ghost use Rattle.bundle_tree_piece.specs.Item.{VarDecl as VarDeclHead, VarDeclarator as VarDeclaratorHead};
-ghost use Rattle.bundle_tree_piece.specs.declared.piece.Role.TheVariants.{Binding};
+ghost use Rattle.bundle_syntax.specs.declared.kind.VarDeclKind.TheVariants.{Var as VarKind};
+ghost use Rattle.bundle_syntax.specs.Item.{VarDecl as VarDeclHead, VarDeclarator as VarDeclaratorHead};
+ghost use Rattle.bundle_syntax.specs.declared.piece.Role.TheVariants.{Binding};
 ghost use Rattle.bundle_tree_listed.specs.Tree.{expr_items, node, pat_items, stmt_items, var_declarator_items};
 ghost use Rattle.bundle_rules.specs.Statements.{no_notes};
 ghost use Rattle.bundle_tree_places.specs.Marks.{ident_of};

@@ -1,7 +1,7 @@
 //! Functions and calls.
 
 ghost use Rattle.std.specs.Prelude.{◌≡◌, ℕ, [], IfOk, flat_map, map};
-ghost use Rattle.bundle_tree_piece.specs.Item.{FnExpr};
+ghost use Rattle.bundle_syntax.specs.Item.{FnExpr};
 ghost use Rattle.bundle_tree_listed.specs.Tree.{each_expr_or_spread_items, each_param_items, each_stmt_items, expr_items, node};
 ghost use Rattle.bundle_tree_places.specs.Marks.{ident_of};
 ghost use Rattle.bundle_merge_injected.specs.Listed.{call_in, function_in, parameter};

@@ -1,9 +1,9 @@
 //! Imports of externals, and exports.
 
 ghost use Rattle.std.specs.Prelude.{◌≡◌, ◌++◌, IfOk, flat_map, map};
-ghost use Rattle.bundle_tree_piece.specs.Item.{ImportDecl as ImportDeclHead};
+ghost use Rattle.bundle_syntax.specs.Item.{ImportDecl as ImportDeclHead};
 ghost use Rattle.bundle_tree_listed.specs.Tree.{export_specifier_items, import_specifier_items, module_item_items, node};
-ghost use Rattle.bundle_tree_piece.specs.declared.piece.Role.TheVariants.{Reference};
+ghost use Rattle.bundle_syntax.specs.declared.piece.Role.TheVariants.{Reference};
 ghost use Rattle.bundle_rules.specs.Statements.{no_notes};
 ghost use Rattle.bundle_tree_places.specs.Marks.{ident_of};
 ghost use Rattle.bundle_merge_injected.specs.Listed as listed;

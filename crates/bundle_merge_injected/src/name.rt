@@ -1,8 +1,8 @@
 //! Names, words and strings.
 
 ghost use Rattle.std.specs.Prelude.{◌≡◌, ℕ, IfOk, string_bytes};
-ghost use Rattle.bundle_tree_piece.specs.declared.piece.Role.{Role};
-ghost use Rattle.bundle_tree_piece.specs.declared.piece.Role.TheVariants.{Reference, Word};
+ghost use Rattle.bundle_syntax.specs.declared.piece.Role.{Role};
+ghost use Rattle.bundle_syntax.specs.declared.piece.Role.TheVariants.{Reference, Word};
 ghost use Rattle.bundle_tree_listed.specs.Tree.{expr_items, ident_name_items, module_export_name_items, pat_items, prop_name_items, str_items};
 ghost use Rattle.bundle_rules.specs.Forms.{returned_key};
 ghost use Rattle.bundle_tree_places.specs.Marks.{ident_of};

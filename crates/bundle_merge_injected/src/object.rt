@@ -1,7 +1,7 @@
 //! Object literals, and the object of a namespace.
 
 ghost use Rattle.std.specs.Prelude.{◌≡◌, ℕ, IfOk, flat_map, map};
-ghost use Rattle.bundle_tree_piece.specs.Item.{ObjectLit};
+ghost use Rattle.bundle_syntax.specs.Item.{ObjectLit};
 ghost use Rattle.bundle_tree_listed.specs.Tree.{expr_items, node, prop_or_spread_items, stmt_items};
 ghost use Rattle.bundle_rules.specs.Forms.{returned_object, returned_property};
 ghost use Rattle.bundle_tree_places.specs.Marks.{ident_of};

@@ -1,36 +1,230 @@
+-- Of which module each item of a block is, before it is sorted: those of a module stand together.
 -- Items are added one behind another, for one plan behind another.
-use Rattle.std.proofs.Common.{◌≡◌, ℕ, zero, suc, ◌+◌, ◌-◌, ◌<◌, ◌≤◌, Bool, true, false, List, [], ◌∷◌, ◌++◌, Option, Some, None, get_or, length, map, take, refl, sym, ap, ◌∙◌, subst, append_assoc, append-nil, length-append, arith}
-use Rattle.std.specs.Prelude.{Contains, flat_map, nat_eq, slice_get}
-use Rattle.std.specs.List.{AllZip, IsDistinct}
+-- What is added outside the blocks of a bundle, and objects, are made for what is decided of it.
+-- Items that are put into a good order are picked by it.
+use Rattle.std.proofs.Common.{◌≡◌, ℕ, zero, suc, ◌≤◌, Bool, true, false, List, [], ◌∷◌, ◌++◌, Option, Some, None, length, map, refl, sym, ap, ◌∙◌, subst, append_assoc, arith, ◌+◌, ◌-◌, ◌<◌, get_or, take, append-nil, length-append, ◌↔◌, eq-eqb}
+use Rattle.std.specs.Prelude.{flat_map, nat_eq, slice_get, if◌then◌else◌, Contains, IsTrue, filter_map}
+use Rattle.std.specs.List.{AllByRecursion, IsDistinct, AllZip, list_any, cons_option}
 use Rattle.std.proofs.Math.ListN.{replicate}
+use Rattle.std.proofs.lemmas.List.{map-append, length-map, take_all}
+use Rattle.std.proofs.lemmas.Option.{none-some, same_Some, slice_get-map}
+use Rattle.std.proofs.lemmas.Bool.{false≢true, true≢false}
+use Rattle.std.proofs.lemmas.Map.Keys.{IsDistinct-head, IsDistinct-tail, apart_from_distinct}
 use Rattle.std.proofs.Math.Seq.{take-suc}
 use Rattle.std.proofs.lemmas.Grind.{flat_map-append}
-use Rattle.std.proofs.lemmas.List.{length-map, map-append, take_all}
 use Rattle.std.proofs.lemmas.Slice.Zip.{AllZip-long}
-use Rattle.bundle_tree_piece.specs.Item.{Item}
+use Rattle.std.specs.Borrow.{Bor}
+use Rattle.std.specs.Option.{option_map}
+use Rattle.std.proofs.lemmas.List.Elements.{Contains-get_or}
+use Rattle.bundle_syntax.specs.Item.{Item}
+use Rattle.bundle_rules.specs.Bundle.{Cause, Own, Defines, Loads, HoldsMeta, owner_of, Exports, Helps, HoldsNamespace, Stars, externals}
 use Rattle.bundle_rules.specs.Order.{IsGoodOrder}
 use Rattle.bundle_rules.specs.Program.{Program}
 use Rattle.bundle_rules.specs.Sorting.{flat, group_of_items}
-use Rattle.bundle_rules.specs.Bundle.{Cause, owner_of}
-use Rattle.bundle_merge_whole.specs.made.Made as put
-use Rattle.bundle_merge_items.specs.Added.{items_of}
-use Rattle.bundle_merge_items.specs.Adds.{Adds, AddsFor, IsPlanned, any_hooks, decided_of}
-use Rattle.bundle_merge_items.specs.Blocks.{AddsOwned, AddsBlocks, AddsPlan, AreItemsMade, AreOwned, AreWithin, InBundle, IsBlockPut, IsPlaced}
-use Rattle.bundle_merge_items.specs.Merged.{AddsBlock, AreBlocksOnce}
-use Rattle.bundle_merge_names.specs.declared.names.Names.{Names}
-use Rattle.bundle_merge_names.specs.declared.part.BundleParts.{BundleParts}
-use Rattle.bundle_merge_whole.specs.made.Given.{Answer, Contexts}
-use Rattle.bundle_merge_whole.specs.made.Made.{IsMade, IsBlockMade, AreBlocksMade}
-use Rattle.bundle_merge_whole.specs.planned.Blocks.{block_of}
-use Rattle.bundle_merge_whole.specs.planned.Decided.{Decided, DecidedBlock, module_plan, object_plan, block_plan, front_plan, back_plan}
-use Rattle.bundle_order.specs.Owned.{AreTogether}
 use Rattle.bundle_order_sort.specs.declared.plan.Block.{Block}
 use Rattle.bundle_tree_ast.specs.declared.module.Module.{Module}
+use Rattle.bundle_rules.specs.Linking.{IsCommonJs, HasExternalStar}
+use Rattle.bundle_rules.specs.Nodes.{Text, parts}
+use Rattle.bundle_rules.specs.Tables.{TellsMeant}
+use Rattle.bundle_rules.specs.Parts.{tree_of_items}
+use Rattle.bundle_rules.specs.Statements.{top_items}
+use Rattle.bundle_order_sort.specs.Arranged.{IsArrangement, AreArranged}
 use Rattle.bundle_tree_ast.specs.declared.module.ModuleItem.{ModuleItem}
 use Rattle.bundle_tree_listed.specs.Tree.{module_item_items}
-use Rattle.bundle_merge_whole.proofs.laid.Lists.{zip-join}
+use Rattle.bundle_merge_injected.specs.Listed.{export_star}
+use Rattle.bundle_order.specs.Owned.{AreTogether}
+use Rattle.bundle_order.proofs.ReferenceLemmas.{whole}
+use Rattle.bundle_link_targets.specs.Handed.{AreExternalsOf}
+use Rattle.bundle_link_targets.specs.Linked.{HandsOver, IsLinkingOf}
+use Rattle.bundle_link_targets.specs.Meant.{AreModules}
+use Rattle.bundle_link_targets.specs.Taken.{PicksThose}
+use Rattle.bundle_link_targets.specs.declared.target.External.{External}
+use Rattle.bundle_merge_theory.specs.planned.Decided.{Decided, one_if, numbers_from, es_plan, module_plan, object_plan, block_plan, DecidedBlock, front_plan, back_plan, external_plan}
+use Rattle.bundle_merge_theory.specs.made.Given.{HookAnswer, BundleContexts}
+use Rattle.bundle_merge_theory.specs.made.Made as put
+use Rattle.bundle_merge_theory.specs.made.Made.{IsMade, IsBlockMade, AreBlocksMade}
+use Rattle.bundle_merge_theory.specs.planned.Blocks.{block_of}
+use Rattle.bundle_merge_theory.proofs.laid.Ready.{zip-join}
+use Rattle.bundle_merge_theory.proofs.sorted.Theorem.{length-placed}
+use Rattle.bundle_merge_names.specs.declared.names.BundleNames.{BundleNames}
+use Rattle.bundle_merge_names.specs.declared.part.BundleInput.{BundleInput}
+use Rattle.bundle_merge_items.specs.Added.{module_item_lists, AreExports, IsObject, helper_of, import_declarations_of}
+use Rattle.bundle_merge_items.specs.Adds.{AddsItems, AddsFor, ArePlannedCauses, any_hooks, decided_of}
+use Rattle.bundle_merge_items.specs.Blocks.{AddsOwned, AddsBlocks, AddsPlan, AreItemsMade, AreOwned, AreBundleModules, InBundle, IsBlockPut, IsBlockPlaced}
+use Rattle.bundle_merge_items.specs.Merged.{AddsBlock, AreBlocksOnce}
 use Rattle.bundle_merge_items.proofs.Adding.{adds-none, adds-on}
-use Rattle.bundle_merge_items.proofs.Together.{AreOf, of-module, of-object, owners-of, together-block}
+use Rattle.bundle_merge_items.proofs.Lifting as lifting
+
+-- ---- together
+
+-- causes whose items are all of this module, or all free
+abbrev pub AreOf : Option ℕ → List Cause → Type 0
+AreOf owner [] = Unit {0}
+AreOf owner (cause ∷ rest) = (owner_of cause ≡ owner) × AreOf owner rest
+
+of-join : (owner : Option ℕ) (xs ys : List Cause) → AreOf owner xs → AreOf owner ys →
+    AreOf owner (xs ++ ys)
+of-join owner [] ys one two = two
+of-join owner (x ∷ xs) ys one two = (one.0, of-join owner xs ys one.1 two)
+
+of-map : {A : Type 0} (owner : Option ℕ) (make : A → Cause) → ((x : A) → owner_of (make x) ≡ owner) →
+    (xs : List A) → AreOf owner (map make xs)
+of-map owner make same [] = tt
+of-map owner make same (x ∷ xs) = (same x, of-map owner make same xs)
+
+of-one : (owner : Option ℕ) (b : Bool) (cause : Cause) → owner_of cause ≡ owner →
+    AreOf owner (one_if b cause)
+of-one owner true cause same = (same, tt)
+of-one owner false cause same = tt
+
+of-es : (d : Decided) (m : ℕ) → AreOf (Some m) (es_plan d m)
+of-es d m =
+    of-join (Some m) (one_if (d.has_meta m) (HoldsMeta m)) _
+    (of-one (Some m) (d.has_meta m) (HoldsMeta m) refl)
+    (of-join (Some m) (map (λ load. Loads m load.which) (d.loads m)) _
+    (of-map (Some m) (λ load. Loads m load.which) (λ load. refl) (d.loads m))
+    (of-map (Some m) (Own m) (λ k. refl) (numbers_from zero (d.statements m))))
+
+-- what a module makes is of it
+pub of-module : (d : Decided) (m : ℕ) → AreOf (Some m) (module_plan d m)
+of-module d m = by (d.is_common_js m)
+  where
+    by : (b : Bool) → AreOf (Some m) (if b then Defines m ∷ [] else es_plan d m)
+    by true = (refl, tt)
+    by false = of-es d m
+
+-- objects are free
+pub of-object : (d : Decided) (m : ℕ) → AreOf None (object_plan d m)
+of-object d m = of-one None (d.is_object_meant m) _ refl
+
+-- the owners of such causes
+pub owners-of : (owner : Option ℕ) (causes : List Cause) → AreOf owner causes →
+    map owner_of causes ≡ replicate (length causes) owner
+owners-of owner [] of = refl
+owners-of owner (cause ∷ rest) of =
+    ap (λ o. o ∷ map owner_of rest) of.0 ∙ ap (λ l. owner ∷ l) (owners-of owner rest of.1)
+
+-- ---- those of a module stand together
+-- no item is of this module
+abbrev IsAbsent : ℕ → List (Option ℕ) → Type 0
+IsAbsent m owners = (i : ℕ) → slice_get owners i ≡ Some (Some m) → ⊥
+
+-- those of this module stand in front
+abbrev IsInFront : ℕ → List (Option ℕ) → Type 0
+IsInFront m owners =
+    (s k : ℕ) → slice_get owners s ≡ Some (Some m) → k ≤ s → slice_get owners k ≡ Some (Some m)
+
+same-number : (m n : ℕ) → Some (Some m) ≡ Some (Some n) → m ≡ n
+same-number m n e = same_Some m n (same_Some (Some m) (Some n) e)
+
+front-more : (m : ℕ) (owners : List (Option ℕ)) → IsInFront m owners →
+    IsInFront m (Some m ∷ owners)
+front-more m owners front s zero e l = refl
+front-more m owners front zero (suc k) e l = absurd (omega (arith, l))
+front-more m owners front (suc s) (suc k) e l = front s k e (omega (arith, l))
+
+together-more : (m : ℕ) (owners : List (Option ℕ)) → IsInFront m owners → AreTogether owners →
+    AreTogether (Some m ∷ owners)
+together-more m owners front all s zero n a b k l u =
+    let same : m ≡ n = same-number m n b in
+    subst (λ j. slice_get (Some m ∷ owners) k ≡ Some (Some j)) same
+    (front-more m owners front s k (a ∙ ap (λ j. Some (Some j)) (sym same)) u)
+together-more m owners front all s (suc t) n a b zero l u = absurd (omega (arith, l))
+together-more m owners front all zero (suc t) n a b (suc k) l u = absurd (omega (arith, u))
+together-more m owners front all (suc s) (suc t) n a b (suc k) l u =
+    all s t n a b k (omega (arith, l)) (omega (arith, u))
+
+absent-front : (m : ℕ) (owners : List (Option ℕ)) → IsAbsent m owners → IsInFront m owners
+absent-front m owners none s k e l = absurd (none s e)
+
+-- so many of a module before others
+before-others : (m count : ℕ) (owners : List (Option ℕ)) → IsAbsent m owners → AreTogether owners →
+    AreTogether (replicate count (Some m) ++ owners)
+    × IsInFront m (replicate count (Some m) ++ owners)
+before-others m zero owners none all = (all, absent-front m owners none)
+before-others m (suc count) owners none all =
+    let rest = before-others m count owners none all in (
+      together-more m (replicate count (Some m) ++ owners) rest.1 rest.0,
+      front-more m (replicate count (Some m) ++ owners) rest.1,
+    )
+
+absent-behind : (m n count : ℕ) (owners : List (Option ℕ)) → nat_eq m n ≡ false →
+    IsAbsent m owners → IsAbsent m (replicate count (Some n) ++ owners)
+absent-behind m n zero owners other none i e = none i e
+absent-behind m n (suc count) owners other none zero e =
+    false≢true (sym other ∙ (ap (nat_eq m) (same-number n m e) ∙ itself m))
+  where
+    itself : (k : ℕ) → nat_eq k k ≡ true
+    itself k = grind arith
+absent-behind m n (suc count) owners other none (suc i) e =
+    absent-behind m n count owners other none i e
+
+-- the owners of items of modules, of each so many, and then of free ones
+abbrev owners_by : (ℕ → ℕ) → List ℕ → ℕ → List (Option ℕ)
+owners_by count places free =
+    flat_map (λ m. replicate (count m) (Some m)) places ++ replicate free None
+
+absent-free : (m free : ℕ) → IsAbsent m (replicate free None)
+absent-free m zero i e = none-some (Some m) e
+absent-free m (suc free) zero e = none-some m (same_Some None (Some m) e)
+absent-free m (suc free) (suc i) e = absent-free m free i e
+
+absent-all : (count : ℕ → ℕ) (m : ℕ) (places : List ℕ) (free : ℕ) →
+    AllByRecursion (λ n. nat_eq m n ≡ false) places → IsAbsent m (owners_by count places free)
+absent-all count m [] free others = absent-free m free
+absent-all count m (n ∷ places) free others =
+    subst (IsAbsent m)
+    (sym (append_assoc (replicate (count n) (Some n)) (flat_map (λ k. replicate (count k) (Some k)) places) (replicate free None)))
+    (absent-behind m n (count n) (owners_by count places free) others.0
+    (absent-all count m places free others.1))
+
+together-free : (free : ℕ) → AreTogether (replicate free None)
+together-free free s t m a b k l u = absurd (absent-free m free s a)
+
+together-by : (count : ℕ → ℕ) (places : List ℕ) (free : ℕ) → IsDistinct nat_eq places →
+    AreTogether (owners_by count places free)
+together-by count [] free once = together-free free
+together-by count (m ∷ places) free once =
+    subst AreTogether
+    (sym (append_assoc (replicate (count m) (Some m)) (flat_map (λ k. replicate (count k) (Some k)) places) (replicate free None)))
+    (before-others m (count m) (owners_by count places free)
+    (absent-all count m places free (IsDistinct-head nat_eq m places once))
+    (together-by count places free (IsDistinct-tail nat_eq m places once))).0
+
+-- ---- those of a block
+owners-modules : (d : Decided) (places : List ℕ) →
+    map owner_of (flat_map (module_plan d) places)
+    ≡ flat_map (λ m. replicate (length (module_plan d m)) (Some m)) places
+owners-modules d [] = refl
+owners-modules d (m ∷ places) =
+    map-append owner_of (module_plan d m) (flat_map (module_plan d) places)
+    ∙ (ap (λ l. l ++ map owner_of (flat_map (module_plan d) places))
+    (owners-of (Some m) (module_plan d m) (of-module d m))
+    ∙ ap (λ l. replicate (length (module_plan d m)) (Some m) ++ l) (owners-modules d places))
+
+of-objects : (d : Decided) (places : List ℕ) → AreOf None (flat_map (object_plan d) places)
+of-objects d [] = tt
+of-objects d (m ∷ places) =
+    of-join None (object_plan d m) (flat_map (object_plan d) places) (of-object d m)
+    (of-objects d places)
+
+owners-block : (d : Decided) (places : List ℕ) →
+    map owner_of (block_plan d places)
+    ≡ owners_by (λ m. length (module_plan d m)) places (length (flat_map (object_plan d) places))
+owners-block d places =
+    map-append owner_of (flat_map (module_plan d) places) (flat_map (object_plan d) places)
+    ∙ (ap (λ l. l ++ map owner_of (flat_map (object_plan d) places)) (owners-modules d places)
+    ∙ ap (λ l. flat_map (λ m. replicate (length (module_plan d m)) (Some m)) places ++ l)
+    (owners-of None (flat_map (object_plan d) places) (of-objects d places)))
+
+-- where no module stands twice in a block, the items of each stand together
+pub together-block : (d : Decided) (places : List ℕ) → IsDistinct nat_eq places →
+    AreTogether (map owner_of (block_plan d places))
+together-block d places once =
+    subst AreTogether (sym (owners-block d places))
+    (together-by (λ m. length (module_plan d m)) places (length (flat_map (object_plan d) places)) once)
+
+-- ---- behind
 
 -- what is made of one element more
 pub flat-next : {A B : Type 0} (f : A → List B) (xs : List A) (i : ℕ) (x : A) → i < length xs →
@@ -44,23 +238,23 @@ flat-next {B = B} f xs i x within =
 -- items that are made of one element more
 pub behind-next : {A : Type 0} (f : A → List (List Item)) (xs : List A) (i : ℕ) (x : A)
     (a b c : Module) → i < length xs → x ≡ get_or xs i x →
-    items_of b ≡ items_of a ++ flat_map f (take i xs) →
-    items_of c ≡ items_of b ++ f x →
-    items_of c ≡ items_of a ++ flat_map f (take (i + 1) xs)
+    module_item_lists b ≡ module_item_lists a ++ flat_map f (take i xs) →
+    module_item_lists c ≡ module_item_lists b ++ f x →
+    module_item_lists c ≡ module_item_lists a ++ flat_map f (take (i + 1) xs)
 behind-next f xs i x a b c within is one two =
     two
     ∙ (ap (λ l. l ++ f x) one
-    ∙ (append_assoc (items_of a) (flat_map f (take i xs)) (f x)
-    ∙ ap (λ l. items_of a ++ l)
+    ∙ (append_assoc (module_item_lists a) (flat_map f (take i xs)) (f x)
+    ∙ ap (λ l. module_item_lists a ++ l)
     (ap (λ y. flat_map f (take i xs) ++ f y) is ∙ sym (flat-next f xs i x within))))
 
 -- of all elements
 pub behind-all : {A : Type 0} (f : A → List (List Item)) (xs : List A) (i : ℕ) (a b : Module) →
-    length xs ≤ i → items_of b ≡ items_of a ++ flat_map f (take i xs) →
-    items_of b ≡ items_of a ++ flat_map f xs
-behind-all f xs i a b past is = is ∙ ap (λ l. items_of a ++ flat_map f l) (take_all i xs past)
+    length xs ≤ i → module_item_lists b ≡ module_item_lists a ++ flat_map f (take i xs) →
+    module_item_lists b ≡ module_item_lists a ++ flat_map f xs
+behind-all f xs i a b past is = is ∙ ap (λ l. module_item_lists a ++ flat_map f l) (take_all i xs past)
 
-module _ (q : Program) (list : List ℕ) (answers : ℕ → Option Answer) (context : Contexts) where
+module _ (q : Program) (list : List ℕ) (answers : ℕ → Option HookAnswer) (context : BundleContexts) where
   abbrev Made : Cause → List Item → Type 0
   Made = IsMade q any_hooks list context answers
 
@@ -68,13 +262,13 @@ module _ (q : Program) (list : List ℕ) (answers : ℕ → Option Answer) (cont
   pub owned-on : (causes more : List Cause) (owner : Option ℕ) (old new : Module)
       (before after : List (Option ℕ)) →
       AreOf owner more →
-      Adds q list answers context more old new →
+      AddsItems q list answers context more old new →
       after ≡ before ++ replicate (length new.body.items - length before) owner →
       AreOwned q list answers context causes old before →
       AreOwned q list answers context (causes ++ more) new after
   owned-on causes more owner old new before after of adds noted are = record {
     each = subst (AllZip Made (causes ++ more)) (sym adds.is)
-        (zip-join Made causes more (items_of old) adds.made are.each adds.each);
+        (zip-join Made causes more (module_item_lists old) adds.made are.each adds.each);
     owned = noted
         ∙ (ap (λ n. before ++ replicate n owner) as-many
         ∙ (ap (λ l. l ++ replicate (length more) owner) are.owned
@@ -86,8 +280,8 @@ module _ (q : Program) (list : List ℕ) (answers : ℕ → Option Answer) (cont
       as-many =
           let a = length-map new.body.items (module_item_items 0) in
           let b = ap length adds.is in
-          let c = length-append (items_of old) adds.made in
-          let e = AllZip-long Made causes (items_of old) are.each in
+          let c = length-append (module_item_lists old) adds.made in
+          let e = AllZip-long Made causes (module_item_lists old) are.each in
           let f = AllZip-long Made more adds.made adds.each in
           let g = ap length are.owned in
           let h = length-map causes owner_of in
@@ -95,8 +289,8 @@ module _ (q : Program) (list : List ℕ) (answers : ℕ → Option Answer) (cont
 
 -- ---- blocks
 -- one block behind others
-pub blocks-more : (q : Program) (list : List ℕ) (answers : ℕ → Option Answer)
-    (context : Contexts) (d : Decided) {blocks : List DecidedBlock} {orders : List (List ℕ)}
+pub blocks-more : (q : Program) (list : List ℕ) (answers : ℕ → Option HookAnswer)
+    (context : BundleContexts) (d : Decided) {blocks : List DecidedBlock} {orders : List (List ℕ)}
     {placed : List (List Item)} {block : DecidedBlock} {order : List ℕ} {its : List (List Item)} →
     AreBlocksMade q any_hooks list context answers d blocks orders placed →
     IsBlockMade q any_hooks list context answers d block order its →
@@ -110,7 +304,7 @@ blocks-more q list answers context d {block = block} {order = order} {its = its}
     (sym (append_assoc placed rest its)) (put.more made (blocks-more q list answers context d others last))
 
 -- ---- loops
-module _ (bundle : BundleParts) (names : Names) where
+module _ (bundle : BundleInput) (names : BundleNames) where
   -- one number more
   pub owned-next : (plan : Decided → ℕ → List Cause) (numbers : List ℕ) (i x : ℕ) (a b c : Module)
       (before between after : List (Option ℕ)) → i < length numbers →
@@ -144,7 +338,7 @@ module _ (bundle : BundleParts) (names : Names) where
 
   -- what a module adds, and that it is of it
   pub put-module : (m : ℕ) (a b : Module) (before after : List (Option ℕ)) →
-      (count : ℕ) → AddsFor bundle names (IsPlanned bundle (λ d. module_plan d m)) a b →
+      (count : ℕ) → AddsFor bundle names (ArePlannedCauses bundle (λ d. module_plan d m)) a b →
       after ≡ before ++ replicate (count - length before) (Some m) → count ≡ length b.body.items →
       AddsOwned bundle names (λ d. module_plan d m) a b before after
   put-module m a b before after total adds noted all =
@@ -159,7 +353,7 @@ module _ (bundle : BundleParts) (names : Names) where
   pub put-object : (m : ℕ) (made : List Item) (a b : Module) (before after : List (Option ℕ)) →
       InBundle bundle names (λ q list answers context d.
       AllZip (IsMade q any_hooks list context answers) (object_plan d m) (made ∷ [])) →
-      (count : ℕ) → items_of b ≡ items_of a ++ made ∷ [] →
+      (count : ℕ) → module_item_lists b ≡ module_item_lists a ++ made ∷ [] →
       after ≡ before ++ replicate (count - length before) None → count ≡ length b.body.items →
       AddsOwned bundle names (λ d. object_plan d m) a b before after
   put-object m made a b before after each total is noted all =
@@ -184,12 +378,12 @@ module _ (bundle : BundleParts) (names : Names) where
 
   -- the items of a block that is put
   pub block-put : (block : Block) (start its mid new : Module) (owners last : List (Option ℕ)) →
-      AreBlocksOnce bundle → Contains bundle.blocks.now block → items_of start ≡ [] →
-      (AreWithin bundle block.places.items →
+      AreBlocksOnce bundle → Contains bundle.blocks.now block → module_item_lists start ≡ [] →
+      (AreBundleModules bundle block.places.items →
       AddsOwned bundle names (λ d. flat_map (module_plan d) block.places.items) start its [] owners) →
       AddsOwned bundle names (λ d. flat_map (object_plan d) block.places.items) its mid owners last →
       (length last ≡ length mid.body.items → AreTogether last →
-      IsPlaced block.is_cycle (items_of mid) last (items_of new)) →
+      IsBlockPlaced block.is_cycle (module_item_lists mid) last (module_item_lists new)) →
       InBundle bundle names (λ q list answers context d. IsBlockPut q list answers context d block new)
   block-put block start its mid new owners last once there empty first second placed =
       λ q list answers context meta count named told.
@@ -201,7 +395,7 @@ module _ (bundle : BundleParts) (names : Names) where
       (flat_map (module_plan d) block.places.items)
       (first (named.parts.blocks block there) q list answers context meta count named told [] none) in
       let long : length last ≡ length mid.body.items =
-      (let a = AllZip-long (Made q list answers context) plan (items_of mid) all.each in
+      (let a = AllZip-long (Made q list answers context) plan (module_item_lists mid) all.each in
       let b = length-map mid.body.items (module_item_items 0) in
       let e = ap length all.owned in
       let f = length-map plan owner_of in
@@ -212,9 +406,9 @@ module _ (bundle : BundleParts) (names : Names) where
       record {
         order = its.order;
         made = record {
-          before = items_of mid;
+          before = module_item_lists mid;
           each = all.each;
-          good = λ sorted. subst (λ l. IsGoodOrder (group_of_items (flat (items_of mid)) l) its.order)
+          good = λ sorted. subst (λ l. IsGoodOrder (group_of_items (flat (module_item_lists mid)) l) its.order)
               all.owned (its.good sorted);
           sorted = its.sorted;
           unsorted = its.unsorted;
@@ -230,7 +424,7 @@ module _ (bundle : BundleParts) (names : Names) where
       let made = there q list answers context meta count named told in
       record {
         order = made.order;
-        placed = items_of its;
+        placed = module_item_lists its;
         made = made.made;
         is = ap (map (module_item_items 0)) appended
             ∙ map-append (module_item_items 0) old.body.items its.body.items;
@@ -240,7 +434,7 @@ module _ (bundle : BundleParts) (names : Names) where
   pub blocks-none : (items : Module) →
       InBundle bundle names (λ q list answers context d. AddsBlocks q list answers context d [] items items)
   blocks-none items = λ q list answers context meta count named told.
-      record { orders = []; placed = []; made = put.none; is = sym (append-nil (items_of items)) }
+      record { orders = []; placed = []; made = put.none; is = sym (append-nil (module_item_lists items)) }
 
   -- one block more
   pub blocks-next : (blocks : List Block) (i : ℕ) (x : Block) (a b c : Module) → i < length blocks →
@@ -266,7 +460,7 @@ module _ (bundle : BundleParts) (names : Names) where
             (blocks-more q list answers context d first.made last.made);
         is = last.is
             ∙ (ap (λ l. l ++ last.placed) first.is
-            ∙ append_assoc (items_of a) first.placed last.placed);
+            ∙ append_assoc (module_item_lists a) first.placed last.placed);
       }
 
   -- all blocks
@@ -294,7 +488,7 @@ module _ (bundle : BundleParts) (names : Names) where
       InBundle bundle names (λ q list answers context d. plan d ≡ []) →
       AddsPlan bundle names plan items items
   plan-none plan items none = λ q list answers context meta count named told.
-      subst (λ l. Adds q list answers context l items items)
+      subst (λ l. AddsItems q list answers context l items items)
       (sym (none q list answers context meta count named told))
       (adds-none q list answers context items)
 
@@ -302,13 +496,13 @@ module _ (bundle : BundleParts) (names : Names) where
   pub plan-made : (plan : Decided → List Cause) (made : List (List Item)) (a b : Module) →
       InBundle bundle names (λ q list answers context d.
       AllZip (IsMade q any_hooks list context answers) (plan d) made) →
-      items_of b ≡ items_of a ++ made →
+      module_item_lists b ≡ module_item_lists a ++ made →
       AddsPlan bundle names plan a b
   plan-made plan made a b each is = λ q list answers context meta count named told.
       record { made = made; each = each q list answers context meta count named told; is = is }
 
   -- the items of a bundle: what stands in front, the blocks, and what stands behind
-  pub all-made : (start a b c : Module) → items_of start ≡ [] →
+  pub all-made : (start a b c : Module) → module_item_lists start ≡ [] →
       AddsPlan bundle names (λ d. front_plan d) start a →
       InBundle bundle names (λ q list answers context d.
       AddsBlocks q list answers context d bundle.blocks.now a b) →
@@ -333,3 +527,147 @@ module _ (bundle : BundleParts) (names : Names) where
           behind = three.each;
         };
       }
+
+-- ---- planned
+
+-- what is made of one element each
+pub single-mapped : {A B C : Type 0} (f : B → C) (g : A → B) (xs : List A) →
+    flat_map (λ x. f (g x) ∷ []) xs ≡ map f (map g xs)
+single-mapped f g [] = refl
+single-mapped f g (x ∷ xs) = ap (λ l. f (g x) ∷ l) (single-mapped f g xs)
+
+module _ (bundle : BundleInput) (names : BundleNames) where
+  -- whether an object is meant is decided so
+  pub object-decided : (m : ℕ) (answer : Bool) →
+      ((p : Program) → IsLinkingOf p bundle.linking.now → AreModules p → TellsMeant p m answer) →
+      InBundle bundle names (λ q list answers context d. answer ≡ d.is_object_meant m)
+  object-decided m answer tells = λ q list answers context meta count named told.
+      lifting.object-told q list answers context bundle names named m answer
+      (tells q named.parts.linking named.parts.modules) meta count
+
+  -- the object of a module, if it is meant
+  pub object-made : (m : ℕ) (made : List Item) → IsObject bundle.linking.now names m made →
+      InBundle bundle names (λ q list answers context d. d.is_object_meant m ≡ true →
+      AllZip (IsMade q any_hooks list context answers) (object_plan d m) (made ∷ []))
+  object-made m made its = λ q list answers context meta count named told meant.
+      subst (λ b. AllZip (IsMade q any_hooks list context answers) (one_if b (HoldsNamespace m)) (made ∷ []))
+      (sym meant) (
+        lifting.object-adds q list answers context bundle names named m
+            (lifting.object-meant q list answers context bundle names named m meta count meant) made its,
+        tt,
+      )
+
+  -- the imports of the externals that linking hands out
+  pub externals-made : (found : List External) →
+      ((p : Program) (list : List ℕ) → HandsOver p list bundle.linking.now →
+      AreExternalsOf p list found) →
+      InBundle bundle names (λ q list answers context d.
+      AllZip (IsMade q any_hooks list context answers) (flat_map external_plan d.externals)
+      (flat_map (import_declarations_of names) found))
+  externals-made found tells = λ q list answers context meta count named told.
+      lifting.externals-adds q list answers context bundle names named found
+      (tells q list named.parts.handed) meta count
+
+  -- whether some module is CommonJS is decided so
+  pub helper-decided : (answer : Bool) →
+      ((p : Program) → IsLinkingOf p bundle.linking.now →
+      (IsTrue answer ↔ ((m : ℕ) × (m < length bundle.parts.now) × IsCommonJs p m))) →
+      InBundle bundle names (λ q list answers context d. answer ≡ list_any d.is_common_js d.list)
+  helper-decided answer tells = λ q list answers context meta count named told.
+      lifting.helps-told q list answers context bundle names named answer
+      (tells q named.parts.linking) meta count
+
+  -- the helper, if one is
+  pub helper-made : (answer : Bool) →
+      ((p : Program) → IsLinkingOf p bundle.linking.now →
+      (IsTrue answer ↔ ((m : ℕ) × (m < length bundle.parts.now) × IsCommonJs p m))) →
+      answer ≡ true →
+      InBundle bundle names (λ q list answers context d.
+      AllZip (IsMade q any_hooks list context answers)
+      (one_if (list_any d.is_common_js d.list) Helps) (helper_of names ∷ []))
+  helper-made answer tells is = λ q list answers context meta count named told.
+      let d = decided_of bundle meta count in
+      subst (λ (b : Bool). AllZip (IsMade q any_hooks list context answers)
+      (one_if (list_any d.is_common_js d.list) Helps) (if b then helper_of names ∷ [] else []))
+      is
+      (lifting.helps-adds q list answers context bundle names named meta count answer
+      (helper-decided answer tells q list answers context meta count named told))
+
+  -- the stars of the externals that linking hands out
+  pub stars-made : (found : List (Bor Text)) →
+      ((p : Program) (list : List ℕ) → HandsOver p list bundle.linking.now →
+      PicksThose (HasExternalStar p p.entry) (externals p list) (map (λ star. star.now) found)) →
+      InBundle bundle names (λ q list answers context d.
+      AllZip (IsMade q any_hooks list context answers) (map Stars d.stars)
+      (flat_map (λ star. export_star star.now ∷ []) found))
+  stars-made found tells = λ q list answers context meta count named told.
+      let d = decided_of bundle meta count in
+      subst (λ l. AllZip (IsMade q any_hooks list context answers) (map Stars d.stars) l)
+      (sym (single-mapped export_star (λ star. star.now) found))
+      (lifting.stars-adds q list answers context bundle names named found
+      (tells q list named.parts.handed) meta count)
+
+  -- what the entry exports
+  pub exports-made : (made : List (List Item)) →
+      AreExports bundle.linking.now names (length bundle.parts.now) made →
+      InBundle bundle names (λ q list answers context d.
+      AllZip (IsMade q any_hooks list context answers) (one_if d.exports Exports) made)
+  exports-made made are = λ q list answers context meta count named told.
+      lifting.exports-adds q list answers context bundle names named made are meta count
+
+-- ---- sorting
+
+-- an order in which each of so many numbers stands once
+pub arrangement : (order : List ℕ) (count : ℕ) → ((n : ℕ) → (n < count) ↔ Contains order n) →
+    IsDistinct nat_eq order → IsArrangement order count
+arrangement order count all once = record {
+  within = λ k l. (all (get_or order k 0)).1 (Contains-get_or order k 0 l);
+  all = λ n l. (all n).0 l;
+  once = λ i j l k e.
+      false≢true (sym (apart_from_distinct nat_eq order i j 0 once l k) ∙ eq-eqb (get_or order i 0) (get_or order j 0) e);
+}
+
+-- what is arranged is picked by the order
+pub arranged-picked : {A B : Type 0} (f : A → B) (order : List ℕ) (old new : List A) →
+    AreArranged order old new → map f new ≡ filter_map (slice_get (map f old)) order
+arranged-picked f [] old [] each = refl
+arranged-picked f [] old (x ∷ new) each = absurd each
+arranged-picked f (n ∷ order) old [] each = absurd each
+arranged-picked {B = B} f (n ∷ order) old (x ∷ new) each =
+    ap (λ (l : List B). f x ∷ l) (arranged-picked f order old new each.1)
+    ∙ ap (λ (o : Option B). cons_option o (filter_map (slice_get (map f old)) order))
+    (sym (slice_get-map f old n ∙ ap (λ (o : Option _). option_map f o) each.0))
+
+group-length : (items : List ModuleItem) (owners : List (Option ℕ)) →
+    length (group_of_items (flat (map (module_item_items 0) items)) owners).items ≡ length items
+group-length items owners =
+    length-map (top_items (tree_of_items (flat (map (module_item_items 0) items)))) _
+    ∙ (length-placed 1 (parts (tree_of_items (flat (map (module_item_items 0) items))))
+    ∙ (ap length (whole items) ∙ length-map items (module_item_items 0)))
+
+-- items that are put into a good order
+pub sorted-placed : (items lent new : List ModuleItem) (owners : List (Option ℕ))
+    (order found : List ℕ) → lent ≡ items → found ≡ order →
+    (length owners ≡ length lent → AreTogether owners →
+    IsGoodOrder (group_of_items (flat (map (module_item_items 0) lent)) owners) order) →
+    (IsArrangement found (length items) → AreArranged found items new) →
+    length owners ≡ length items → AreTogether owners →
+    IsBlockPlaced true (map (module_item_items 0) items) owners (map (module_item_items 0) new)
+sorted-placed items lent new owners order found same so good arranged long together =
+    record {
+      order = order;
+      good = λ is. by;
+      sorted = λ is.
+          arranged-picked (module_item_items 0) order items new
+          (subst (λ l. AreArranged l items new) so
+          (arranged (subst (λ l. IsArrangement l (length items)) (sym so)
+          (arrangement order (length items) all by.order_of.once))));
+      unsorted = λ is. absurd (true≢false is);
+    }
+  where
+    by : IsGoodOrder (group_of_items (flat (map (module_item_items 0) items)) owners) order
+    by = subst (λ l. IsGoodOrder (group_of_items (flat (map (module_item_items 0) l)) owners) order)
+        same (good (long ∙ ap length (sym same)) together)
+
+    all : (n : ℕ) → (n < length items) ↔ Contains order n
+    all n = subst (λ k. (n < k) ↔ Contains order n) (group-length items owners) (by.order_of.all n)

@@ -1,18 +1,9 @@
 mod Adding
-mod Stating
+pub mod Copies
 mod Made
-mod MetaLemmas
+pub mod LackLemmas
 mod Lifting
 mod Parting
-mod Turning
-mod Owning
-mod Owned
-pub mod Copies
-mod Planning
-mod Together
-mod Planned
-mod Sorting
+pub mod NeedsLemmas
 mod Behind
 pub mod Once
-pub mod NeedsLemmas
-pub mod LackLemmas

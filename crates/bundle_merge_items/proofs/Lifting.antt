@@ -1,16 +1,15 @@
 -- What a bundle adds is made for the causes that are decided of its modules.
-use Rattle.std.proofs.Common.{◌≡◌, ◌↔◌, ◌<◌, inl, inr, ℕ, zero, suc, ◌+◌, Bool, true, false, List, [], ◌∷◌, ◌++◌, Option, Some, None, Contains, length, map, unwrap_or, refl, ap, sym, subst, ◌∙◌, arith}
+use Rattle.std.proofs.Common.{◌≡◌, ◌↔◌, ◌<◌, inl, inr, ℕ, zero, suc, ◌+◌, Bool, true, false, List, [], ◌∷◌, Option, Some, None, Contains, length, map, unwrap_or, refl, ap, sym, subst, ◌∙◌, arith}
 use Rattle.std.specs.Prelude.{IsTrue, ◌&&◌, not, filter, filter_map, flat_map, is_some, slice_get, if◌then◌else◌}
 use Rattle.std.specs.Borrow.{Bor}
 use Rattle.std.specs.List.{AllZip, list_any}
 use Rattle.std.proofs.lemmas.Bool.{false≢true}
 use Rattle.std.proofs.lemmas.Option.{none-some}
-use Rattle.bundle_tree_piece.specs.Item.{Item}
+use Rattle.bundle_syntax.specs.Item.{Item}
 use Rattle.bundle_order_graph.specs.Walks.{itself, along}
 use Rattle.bundle_order_graph.proofs.WalkLemmas.{Reaches-trans}
-use Rattle.bundle_rules.specs.Bundle.{Cause, Helps, Loads, HoldsNamespace, Stars, Exports, AreLinked, externals}
+use Rattle.bundle_rules.specs.Bundle.{Helps, Loads, HoldsNamespace, Stars, Exports, AreLinked, externals}
 use Rattle.bundle_rules.specs.Entries.{declared_requests, has_import_meta}
-use Rattle.bundle_rules.specs.Idents.{Ident}
 use Rattle.bundle_rules.specs.Linking as l
 use Rattle.bundle_rules.specs.Linking.{IsCommonJs, HasExternalStar}
 use Rattle.bundle_rules.specs.Meaning.{Of, IsMeant}
@@ -19,41 +18,38 @@ use Rattle.bundle_rules.specs.Program.{Program, tree_of, resolves, IsReached, Is
 use Rattle.bundle_rules.specs.Statements.{no_notes, own_statements}
 use Rattle.bundle_rules.specs.Tables.{TellsCommonJs, TellsMeant}
 use Rattle.bundle_link_index.specs.Leads.{flagged}
-use Rattle.bundle_link_index.specs.declared.target.Target.{Target}
-use Rattle.bundle_link_index.specs.declared.target.Target.TheVariants as t
-use Rattle.bundle_link_index.proofs.SaidLemmas.{any_there, there_of_any}
+use Rattle.bundle_link_index.specs.declared.target.TargetRef.{TargetRef}
+use Rattle.bundle_link_index.specs.declared.target.TargetRef.TheVariants as t
+use Rattle.bundle_link_index.proofs.ProgramLemmas.{any_there, there_of_any, filter_back as filter-back, map_on as map-on, later}
 use Rattle.bundle_link_targets.specs.Handed.{AreExternalsOf, AreLoadsIn, IsExternalOf, IsLoadOf}
-use Rattle.bundle_link_targets.specs.Names.{pair_of}
-use Rattle.bundle_link_targets.specs.Taken.{Picks}
+use Rattle.bundle_link_targets.specs.Names.{target_pair}
+use Rattle.bundle_link_targets.specs.Taken.{PicksThose}
 use Rattle.bundle_link_targets.specs.declared.target.External.{External}
 use Rattle.bundle_link_targets.specs.declared.target.Loaded.{Loaded}
 use Rattle.bundle_link_targets.specs.Linked.{HandsOver}
-use Rattle.bundle_link_targets.specs.Lists.{list_in}
-use Rattle.bundle_link_targets.proofs.ListLemmas.{filter-back, map-on}
-use Rattle.bundle_link_targets.proofs.MeetLemmas.{object-told as object-held}
-use Rattle.bundle_link_reached.proofs.AlikeLemmas.{once_back, some_back}
-use Rattle.bundle_link_reached.proofs.ElementLemmas.{later}
+use Rattle.bundle_link_targets.proofs.HandedLemmas.{object-told as object-held}
+use Rattle.bundle_link.proofs.AlikeLemmas.{some_back}
+use Rattle.bundle_link_targets.proofs.CalledLemmas.{numbers-back as once_back}
 use Rattle.bundle_merge_injected.specs.Listed as f
-use Rattle.bundle_merge_whole.specs.made.Given.{Answer, Fresh, Written, stands_written, Contexts}
-use Rattle.bundle_merge_whole.specs.made.Made.{IsMade, stars}
-use Rattle.bundle_merge_whole.specs.planned.Blocks.{block_of}
-use Rattle.bundle_merge_whole.specs.planned.Decided.{DecidedExternal, DecidedLoad, back_plan, external_plan, front_plan, numbers_from, object_plan, one_if}
-use Rattle.bundle_merge_whole.specs.sound.Decided.{AreLinkedBy, exports_some, external_of, has_some, load_of}
-use Rattle.bundle_merge_whole.proofs.laid.Lists.{zip-join}
-use Rattle.bundle_merge_whole.proofs.planned.ListLemmas.{here}
-use Rattle.bundle_merge_whole.proofs.planned.RequestLemmas.{declared_leads}
-use Rattle.bundle_merge_whole.proofs.sound.Found.{all-there, from-there, there-from}
-use Rattle.bundle_merge_whole.proofs.sound.Same.{common-js-same, object-same, externals-same, loads-same, stars-same, exports-same, one-answer}
-use Rattle.bundle_merge_names.specs.Bundle.{AreAnswers}
+use Rattle.bundle_merge_theory.specs.made.Given.{HookAnswer, Fresh, Written, stands_written, BundleContexts}
+use Rattle.bundle_merge_theory.specs.made.Made.{IsMade, stars}
+use Rattle.bundle_merge_theory.specs.planned.Blocks.{block_of}
+use Rattle.bundle_merge_theory.specs.planned.Decided.{DecidedExternal, DecidedLoad, external_plan, numbers_from, one_if}
+use Rattle.bundle_merge_theory.specs.sound.Decided.{AreTablesLinked, exports_some, external_of, has_some, load_of}
+use Rattle.bundle_merge_theory.proofs.laid.Ready.{zip-join}
+use Rattle.bundle_link_targets.proofs.ListLemmas.{first-there as here}
+use Rattle.bundle_merge_theory.proofs.planned.RequestLemmas.{declared_leads}
+use Rattle.bundle_merge_theory.proofs.sound.Found.{all-there, from-there, there-from, common-js-same, object-same, externals-same, loads-same, stars-same, exports-same, one-answer}
+use Rattle.bundle_merge_names.specs.Bundle.{AreMetaAnswers}
 use Rattle.bundle_merge_names.specs.Idents.{target_ident}
-use Rattle.bundle_merge_names.specs.declared.names.Names.{Names}
+use Rattle.bundle_merge_names.specs.declared.names.BundleNames.{BundleNames}
 use Rattle.bundle_merge_names.specs.declared.part.Answered.{Answered}
-use Rattle.bundle_merge_names.specs.declared.part.BundleParts.{BundleParts}
-use Rattle.bundle_merge_names.specs.declared.part.Part.{Part}
+use Rattle.bundle_merge_names.specs.declared.part.BundleInput.{BundleInput}
+use Rattle.bundle_merge_names.specs.declared.part.BundleModule.{BundleModule}
 use Rattle.bundle_merge_names.proofs.ScopeLemmas.{there-below}
 use Rattle.bundle_merge_items.specs.Added as a
 use Rattle.bundle_merge_items.specs.Adds.{IsNamedBundle, any_hooks, decided_of}
-use Rattle.bundle_merge_names.specs.Naming.{AreNamed}
+use Rattle.bundle_merge_names.specs.Naming.{AreBundleNamesOf}
 use Rattle.bundle_merge_items.proofs.Made as made
 use Rattle.bundle_merge_names.proofs.Naming.{are-named}
 
@@ -62,11 +58,11 @@ use Rattle.bundle_merge_names.proofs.Naming.{are-named}
 pub zip-one : {A B : Type 0} (R : A → B → Type 0) (x : A) (y : B) → R x y → AllZip R (x ∷ []) (y ∷ [])
 zip-one R x y is = (is, tt)
 
-module _ (q : Program) (list : List ℕ) (answers : ℕ → Option Answer) (context : Contexts) (bundle : BundleParts) (names : Names) (its : IsNamedBundle q list answers context bundle names) where
+module _ (q : Program) (list : List ℕ) (answers : ℕ → Option HookAnswer) (context : BundleContexts) (bundle : BundleInput) (names : BundleNames) (its : IsNamedBundle q list answers context bundle names) where
   abbrev count : ℕ
   count = length bundle.parts.now
 
-  named : AreNamed q list context names
+  named : AreBundleNamesOf q list context names
   named = are-named q list answers context bundle names its.parts its.named its.sound
 
   -- ---- what is decided
@@ -80,7 +76,7 @@ module _ (q : Program) (list : List ℕ) (answers : ℕ → Option Answer) (cont
   count_of m = length (own_statements (tree_of q m))
 
   -- the modules are linked so, whatever their tables tell
-  pub linked-by : AreLinkedBy q count bundle.linking.now meta_of count_of
+  pub linked-by : AreTablesLinked q count bundle.linking.now meta_of count_of
   linked-by = record {
     list = subst (IsList q) its.parts.places its.sound.is_list;
     linked = its.parts.linking;
@@ -110,17 +106,6 @@ module _ (q : Program) (list : List ℕ) (answers : ℕ → Option Answer) (cont
       (object-held q bundle.linking.now.meant.targets (its.parts.linking.meant its.parts.modules) m
       ((decided_of bundle meta statements).is_object_meant m) refl).0 is
 
-  -- what of an external is meant, and what a module loads
-  pub external-of : (external : External) →
-      Contains bundle.linking.now.outside.externals.items external → IsExternalOf q external
-  external-of external there =
-      all-there (IsExternalOf q) bundle.linking.now.outside.externals.items
-      (its.parts.handed.externals.meant its.parts.modules) external there
-
-  pub loads-of : (m : ℕ) → IsReached q m →
-      AreLoadsIn q m (list_in bundle.linking.now.outside.loads.items m)
-  loads-of m reached = its.parts.handed.loads m reached
-
   -- something was answered for just the modules that have an `import.meta` of which no object is
   -- written already
   pub meta-told : (m : ℕ) → IsReached q m →
@@ -132,8 +117,8 @@ module _ (q : Program) (list : List ℕ) (answers : ℕ → Option Answer) (cont
       (unwrap_or (slice_get bundle.answers.now m) None) refl refl
       (its.parts.answered m part.0 part.1)
     where
-      by : (part : Part) (has : Bool) (told : Option Answer) (found : Option Answered) →
-          has_import_meta (tree_of q m) ≡ has → answers m ≡ told → AreAnswers told part found →
+      by : (part : BundleModule) (has : Bool) (told : Option HookAnswer) (found : Option Answered) →
+          has_import_meta (tree_of q m) ≡ has → answers m ≡ told → AreMetaAnswers told part found →
           (has && not (stands_written told)) ≡ is_some found
       by part true (Some (Fresh properties)) (Some answer) is told are = refl
       by part false (Some (Fresh properties)) (Some answer) is told are =
@@ -151,19 +136,19 @@ module _ (q : Program) (list : List ℕ) (answers : ℕ → Option Answer) (cont
   -- ---- externals
   pub external-adds : (external : External) → IsExternalOf q external →
       AllZip (IsMade q any_hooks list context answers) (external_plan (external_of external))
-      (a.imports_of names external)
+      (a.import_declarations_of names external)
   external-adds external is =
       made.external-made q any_hooks list context answers names named external is
 
   externals-made : (found : List External) →
       ((external : External) → Contains found external → IsExternalOf q external) →
       AllZip (IsMade q any_hooks list context answers)
-      (flat_map external_plan (map external_of found)) (flat_map (a.imports_of names) found)
+      (flat_map external_plan (map external_of found)) (flat_map (a.import_declarations_of names) found)
   externals-made [] are = tt
   externals-made (external ∷ found) are =
       zip-join (IsMade q any_hooks list context answers) (external_plan (external_of external))
-      (flat_map external_plan (map external_of found)) (a.imports_of names external)
-      (flat_map (a.imports_of names) found)
+      (flat_map external_plan (map external_of found)) (a.import_declarations_of names external)
+      (flat_map (a.import_declarations_of names) found)
       (external-adds external (are external (here external found)))
       (externals-made found (λ other there. are other (later external found other there)))
 
@@ -172,11 +157,11 @@ module _ (q : Program) (list : List ℕ) (answers : ℕ → Option Answer) (cont
       (meta : ℕ → Bool) (statements : ℕ → ℕ) →
       AllZip (IsMade q any_hooks list context answers)
       (flat_map external_plan (decided_of bundle meta statements).externals)
-      (flat_map (a.imports_of names) found)
+      (flat_map (a.import_declarations_of names) found)
   externals-adds found are meta statements =
       subst
       (λ (es : List DecidedExternal). AllZip (IsMade q any_hooks list context answers)
-      (flat_map external_plan es) (flat_map (a.imports_of names) found))
+      (flat_map external_plan es) (flat_map (a.import_declarations_of names) found))
       (externals-same q count bundle.linking.now meta_of count_of linked-by
       (map block_of bundle.blocks.now) found
       (subst (λ (ms : List ℕ). AreExternalsOf q ms found) its.parts.places are))
@@ -240,22 +225,22 @@ module _ (q : Program) (list : List ℕ) (answers : ℕ → Option Answer) (cont
 
   -- ---- CommonJS modules that a module loads
   loaded-told : (m : ℕ) → IsReached q m → (found : List Loaded) → AreLoadsIn q m found →
-      (loaded : Loaded) → Contains found loaded → IsReached q loaded.module × IsCommonJs q loaded.module
+      (loaded : Loaded) → Contains found loaded → IsReached q loaded.which × IsCommonJs q loaded.which
   loaded-told m reached found are loaded there =
       let led = filter_map (resolves q m) (declared_requests (tree_of q m)) in
-      let listed = map-on (λ (its : Loaded). its.module) found loaded there in
-      let once = subst (λ (ms : List ℕ). Contains ms loaded.module) are.modules listed in
-      let passed = filter-back are.test led loaded.module
-      (once_back (filter are.test led) loaded.module once) in
-      let asked = some_back (resolves q m) (declared_requests (tree_of q m)) loaded.module passed.0 in (
-        Reaches-trans reached (along (declared_leads q m loaded.module asked.0 asked.1 asked.2) itself),
-        (are.tells loaded.module).0 passed.1,
+      let listed = map-on (λ (its : Loaded). its.which) found loaded there in
+      let once = subst (λ (ms : List ℕ). Contains ms loaded.which) are.modules listed in
+      let passed = filter-back are.test led loaded.which
+      (once_back (filter are.test led) loaded.which once) in
+      let asked = some_back (resolves q m) (declared_requests (tree_of q m)) loaded.which passed.0 in (
+        Reaches-trans reached (along (declared_leads q m loaded.which asked.0 asked.1 asked.2) itself),
+        (are.tells loaded.which).0 passed.1,
       )
 
   -- the statement by which a module loads one of those that linking hands out
   pub load-adds : (m : ℕ) → IsReached q m → (found : List Loaded) → AreLoadsIn q m found →
       (loaded : Loaded) → Contains found loaded →
-      IsMade q any_hooks list context answers (Loads m loaded.module) (a.load_of names m loaded)
+      IsMade q any_hooks list context answers (Loads m loaded.which) (a.load_item_of names m loaded)
   load-adds m reached found are loaded there =
       let told = loaded-told m reached found are loaded there in
       made.load-made q any_hooks list context answers names named m loaded told.0 told.1
@@ -263,9 +248,9 @@ module _ (q : Program) (list : List ℕ) (answers : ℕ → Option Answer) (cont
 
   loads-made : (m : ℕ) (found : List Loaded) →
       ((loaded : Loaded) → Contains found loaded →
-      IsMade q any_hooks list context answers (Loads m loaded.module) (a.load_of names m loaded)) →
+      IsMade q any_hooks list context answers (Loads m loaded.which) (a.load_item_of names m loaded)) →
       AllZip (IsMade q any_hooks list context answers)
-      (map (λ load. Loads m load.«module») (map load_of found)) (map (a.load_of names m) found)
+      (map (λ load. Loads m load.which) (map load_of found)) (map (a.load_item_of names m) found)
   loads-made m [] each = tt
   loads-made m (loaded ∷ found) each = (
     each loaded (here loaded found),
@@ -275,12 +260,12 @@ module _ (q : Program) (list : List ℕ) (answers : ℕ → Option Answer) (cont
   pub loads-adds : (m : ℕ) → IsReached q m → (found : List Loaded) → AreLoadsIn q m found →
       (meta : ℕ → Bool) (statements : ℕ → ℕ) →
       AllZip (IsMade q any_hooks list context answers)
-      (map (λ load. Loads m load.«module») ((decided_of bundle meta statements).loads m))
-      (map (a.load_of names m) found)
+      (map (λ load. Loads m load.which) ((decided_of bundle meta statements).loads m))
+      (map (a.load_item_of names m) found)
   loads-adds m reached found are meta statements =
       subst
       (λ (loads : List DecidedLoad). AllZip (IsMade q any_hooks list context answers)
-      (map (λ load. Loads m load.«module») loads) (map (a.load_of names m) found))
+      (map (λ load. Loads m load.which) loads) (map (a.load_item_of names m) found))
       (loads-same q count bundle.linking.now meta_of count_of linked-by
       (map block_of bundle.blocks.now) m reached found are)
       (loads-made m found (load-adds m reached found are))
@@ -297,38 +282,10 @@ module _ (q : Program) (list : List ℕ) (answers : ℕ → Option Answer) (cont
       (made.object-made q any_hooks list context answers names named m is.linked.linked meant
       (is.linked.by q its.parts.linking its.parts.modules (inr meant)))
 
-  -- the object of a module, where it is meant
-  pub objects-adds : (m : ℕ) (answer : Bool) → TellsMeant q m answer →
-      (meta : ℕ → Bool) (statements : ℕ → ℕ) (items : List (List Item)) →
-      (answer ≡ true →
-      (item : List Item) × a.IsObject bundle.linking.now names m item × (items ≡ item ∷ [])) →
-      (answer ≡ false → items ≡ []) →
-      AllZip (IsMade q any_hooks list context answers)
-      (object_plan (decided_of bundle meta statements) m) items
-  objects-adds m answer tells meta statements items are none =
-      subst
-      (λ (t : Bool). AllZip (IsMade q any_hooks list context answers)
-      (one_if t (HoldsNamespace m)) items)
-      (object-told m answer tells meta statements) (by answer refl)
-    where
-      by : (t : Bool) → answer ≡ t →
-          AllZip (IsMade q any_hooks list context answers) (one_if t (HoldsNamespace m)) items
-      by true told =
-          let there = are told in
-          subst
-          (λ (them : List (List Item)). AllZip (IsMade q any_hooks list context answers)
-          (HoldsNamespace m ∷ []) them) (sym there.2)
-          (zip-one (IsMade q any_hooks list context answers) (HoldsNamespace m) there.0
-          (object-adds m (tells.0 told) there.0 there.1))
-      by false told =
-          subst
-          (λ (them : List (List Item)). AllZip (IsMade q any_hooks list context answers) [] them)
-          (sym (none told)) tt
-
   -- ---- what is exported
-  exported : (linked : List (Bor Text × Target)) → AreLinked q q.entry (map pair_of linked) →
+  exported : (linked : List (Bor Text × TargetRef)) → AreLinked q q.entry (map target_pair linked) →
       AllZip (IsMade q any_hooks list context answers) (one_if (has_some linked) Exports)
-      (a.exports_of (a.linked_pairs names linked))
+      (a.export_list_of (a.linked_pairs names linked))
   exported [] are = tt
   exported (pair ∷ more) are =
       zip-one (IsMade q any_hooks list context answers) Exports
@@ -343,15 +300,15 @@ module _ (q : Program) (list : List ℕ) (answers : ℕ → Option Answer) (cont
   exports-by _ _ same (a.of_entry {entry} pairs are) =
       let is_entry : entry ≡ q.entry = omega (arith, same, its.parts.entry) in
       let linked = are.by q its.parts.linking its.parts.modules (inl is_entry) in
-      let by_entry : AreLinked q q.entry (map pair_of are.linked) =
-      subst (λ m. AreLinked q m (map pair_of are.linked)) is_entry linked in
+      let by_entry : AreLinked q q.entry (map target_pair are.linked) =
+      subst (λ m. AreLinked q m (map target_pair are.linked)) is_entry linked in
       subst
       (λ (them : List (List Item)). AllZip (IsMade q any_hooks list context answers)
       (one_if (exports_some bundle.linking.now (suc entry)) Exports) them)
-      (ap a.exports_of (sym are.is))
+      (ap a.export_list_of (sym are.is))
       (subst
       (λ (t : Bool). AllZip (IsMade q any_hooks list context answers) (one_if t Exports)
-      (a.exports_of (a.linked_pairs names are.linked)))
+      (a.export_list_of (a.linked_pairs names are.linked)))
       (exports-same q count bundle.linking.now meta_of count_of linked-by
       (map block_of bundle.blocks.now) are.linked by_entry
       ∙ ap (exports_some bundle.linking.now) (sym same))
@@ -371,7 +328,7 @@ module _ (q : Program) (list : List ℕ) (answers : ℕ → Option Answer) (cont
   stars-made (s ∷ found) = (stars refl, stars-made found)
 
   pub stars-adds : (found : List (Bor Text)) →
-      Picks (HasExternalStar q q.entry) (externals q list) (map (λ star. star.now) found) →
+      PicksThose (HasExternalStar q q.entry) (externals q list) (map (λ star. star.now) found) →
       (meta : ℕ → Bool) (statements : ℕ → ℕ) →
       AllZip (IsMade q any_hooks list context answers)
       (map Stars (decided_of bundle meta statements).stars)
@@ -383,35 +340,6 @@ module _ (q : Program) (list : List ℕ) (answers : ℕ → Option Answer) (cont
       (stars-same q count bundle.linking.now meta_of count_of linked-by
       (map block_of bundle.blocks.now) (map (λ star. star.now) found)
       (subst
-      (λ (ms : List ℕ). Picks (HasExternalStar q q.entry) (externals q ms)
+      (λ (ms : List ℕ). PicksThose (HasExternalStar q q.entry) (externals q ms)
       (map (λ star. star.now) found)) its.parts.places are))
       (stars-made (map (λ star. star.now) found))
-
-  -- ---- in front of the blocks, and behind them
-  pub front-adds : (found : List External) → AreExternalsOf q list found →
-      (has : Bool) → IsTrue has ↔ ((c : ℕ) × (c < count) × IsCommonJs q c) →
-      (meta : ℕ → Bool) (statements : ℕ → ℕ) →
-      AllZip (IsMade q any_hooks list context answers) (front_plan (decided_of bundle meta statements))
-      (flat_map (a.imports_of names) found ++ (if has then a.helper_of names ∷ [] else []))
-  front-adds found are has tells meta statements =
-      zip-join (IsMade q any_hooks list context answers)
-      (flat_map external_plan (decided_of bundle meta statements).externals)
-      (one_if
-      (list_any (decided_of bundle meta statements).is_common_js
-      (decided_of bundle meta statements).list) Helps)
-      (flat_map (a.imports_of names) found) (if has then a.helper_of names ∷ [] else [])
-      (externals-adds found are meta statements)
-      (helps-adds meta statements has (helps-told has tells meta statements))
-
-  pub back-adds : (found : List (Bor Text)) →
-      Picks (HasExternalStar q q.entry) (externals q list) (map (λ star. star.now) found) →
-      (items : List (List Item)) → a.AreExports bundle.linking.now names count items →
-      (meta : ℕ → Bool) (statements : ℕ → ℕ) →
-      AllZip (IsMade q any_hooks list context answers) (back_plan (decided_of bundle meta statements))
-      (map f.export_star (map (λ star. star.now) found) ++ items)
-  back-adds found are items exports meta statements =
-      zip-join (IsMade q any_hooks list context answers)
-      (map Stars (decided_of bundle meta statements).stars)
-      (one_if (decided_of bundle meta statements).exports Exports)
-      (map f.export_star (map (λ star. star.now) found)) items
-      (stars-adds found are meta statements) (exports-adds items exports meta statements)

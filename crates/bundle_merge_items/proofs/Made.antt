@@ -3,40 +3,39 @@ use Rattle.std.proofs.Common.{◌≡◌, ℕ, Bool, true, false, List, [], ◌�
 use Rattle.std.specs.Prelude.{Contains, codes, if◌then◌else◌}
 use Rattle.std.specs.Borrow.{Bor}
 use Rattle.std.specs.List.{AllZip}
-use Rattle.bundle_tree_piece.specs.Item.{Item}
 use Rattle.bundle_rules.specs.Nodes.{Text}
 use Rattle.bundle_rules.specs.Statements.{no_notes}
 use Rattle.bundle_rules.specs.Entries as e
 use Rattle.bundle_rules.specs.Program.{Program, IsReached}
 use Rattle.bundle_rules.specs.Linking as l
-use Rattle.bundle_rules.specs.Linking.{IsCommonJs, Linked}
+use Rattle.bundle_rules.specs.Linking.{IsCommonJs}
 use Rattle.bundle_rules.specs.Meaning.{Of, Load, Helper, IsMeant, by_export, by_namespace}
-use Rattle.bundle_rules.specs.Bundle.{Cause, ImportsNames, ImportsWhole, ImportsNothing, Helps, Loads, HoldsNamespace, Exports, Hooks, AreNames, AreLinked}
+use Rattle.bundle_rules.specs.Bundle.{ImportsWhole, Helps, Loads, HoldsNamespace, Exports, Hooks, AreNames, AreLinked}
 use Rattle.bundle_link_tables.specs.declared.table.Taken.TheVariants as k
 use Rattle.bundle_link_index.specs.Says.{target_of}
-use Rattle.bundle_link_index.specs.declared.target.Target.{Target}
-use Rattle.bundle_link_index.specs.declared.target.Target.TheVariants as t
-use Rattle.bundle_link_targets.specs.Names.{pair_of}
+use Rattle.bundle_link_index.specs.declared.target.TargetRef.{TargetRef}
+use Rattle.bundle_link_index.specs.declared.target.TargetRef.TheVariants as t
+use Rattle.bundle_link_targets.specs.Names.{target_pair}
 use Rattle.bundle_link_targets.specs.Handed.{IsExternalOf, IsLoadOf}
 use Rattle.bundle_link_targets.specs.declared.target.External.{External}
 use Rattle.bundle_link_targets.specs.declared.target.Loaded.{Loaded}
 use Rattle.bundle_merge_injected.specs.Listed as f
-use Rattle.bundle_merge_meaning.proofs.joined.Tops.{Contains-cons}
-use Rattle.bundle_merge_whole.specs.made.Given.{Answer, Contexts, HelperParameter, ident_of_label}
+use Rattle.bundle_merge_theory.proofs.joined.Bindings.{Contains-cons}
+use Rattle.bundle_merge_theory.specs.made.Given.{HookAnswer, BundleContexts, HelperParameter, ident_of_label}
 use Rattle.bundle_merge_names.specs.Idents.{label_ident, target_ident}
 use Rattle.bundle_merge_names.specs.declared.names.Label.TheVariants as n
-use Rattle.bundle_merge_names.specs.declared.names.Names.{Names}
+use Rattle.bundle_merge_names.specs.declared.names.BundleNames.{BundleNames}
 use Rattle.bundle_merge_items.specs.Added as a
-use Rattle.bundle_merge_whole.specs.planned.Decided.{external_plan, names_plan, bare_plan, one_if}
-use Rattle.bundle_merge_whole.specs.sound.Decided.{external_of}
-use Rattle.bundle_merge_whole.proofs.laid.Lists.{zip-join}
-use Rattle.bundle_merge_whole.specs.made.Made as m
-use Rattle.bundle_merge_whole.specs.made.Made.{IsMade, named_idents, linked_idents}
-use Rattle.bundle_merge_names.specs.Naming.{AreNamed}
+use Rattle.bundle_merge_theory.specs.planned.Decided.{external_plan, names_plan, bare_plan, one_if}
+use Rattle.bundle_merge_theory.specs.sound.Decided.{external_of}
+use Rattle.bundle_merge_theory.proofs.laid.Ready.{zip-join}
+use Rattle.bundle_merge_theory.specs.made.Made as m
+use Rattle.bundle_merge_theory.specs.made.Made.{IsMade, named_idents, linked_idents}
+use Rattle.bundle_merge_names.specs.Naming.{AreBundleNamesOf}
 
-module _ (p : Program) (hooks : Hooks) (list : List ℕ) (context : Contexts) (answers : ℕ → Option Answer) (names : Names) (named : AreNamed p list context names) where
+module _ (p : Program) (hooks : Hooks) (list : List ℕ) (context : BundleContexts) (answers : ℕ → Option HookAnswer) (names : BundleNames) (named : AreBundleNamesOf p list context names) where
   -- names that are taken have the identifiers of their targets
-  pub pairs-are : (code : Bor Text → Target) (of : Text → l.Target) (its : List (Bor Text)) →
+  pub pairs-are : (code : Bor Text → TargetRef) (of : Text → l.Target) (its : List (Bor Text)) →
       ((x : Bor Text) → target_of (code x) ≡ of x.now) →
       ((x : Text) → Contains (map (λ name. name.now) its) x → IsMeant p (Of (of x))) →
       a.named_pairs names code its ≡ named_idents p list context of (map (λ name. name.now) its)
@@ -49,13 +48,13 @@ module _ (p : Program) (hooks : Hooks) (list : List ℕ) (context : Contexts) (a
       ∙ ap (λ pairs. (x.now, ident_of_label p list context (Of (of x.now))) ∷ pairs) rest
 
   -- the same of linked names
-  pub linked-are : (its : List (Bor Text × Target)) →
-      ((x : Text) (to : l.Target) → Contains (map pair_of its) (x, to) → IsMeant p (Of to)) →
-      a.linked_pairs names its ≡ linked_idents p list context (map pair_of its)
+  pub linked-are : (its : List (Bor Text × TargetRef)) →
+      ((x : Text) (to : l.Target) → Contains (map target_pair its) (x, to) → IsMeant p (Of to)) →
+      a.linked_pairs names its ≡ linked_idents p list context (map target_pair its)
   linked-are [] meant = refl
   linked-are (x ∷ more) meant =
-      let first = named.targets x.1 (meant x.0.now (target_of x.1) ((Contains-cons (pair_of x) (map pair_of more) (pair_of x)).1 (inl refl))) in
-      let rest = linked-are more (λ y to there. meant y to ((Contains-cons (pair_of x) (map pair_of more) (y, to)).1 (inr there))) in
+      let first = named.targets x.1 (meant x.0.now (target_of x.1) ((Contains-cons (target_pair x) (map target_pair more) (target_pair x)).1 (inl refl))) in
+      let rest = linked-are more (λ y to there. meant y to ((Contains-cons (target_pair x) (map target_pair more) (y, to)).1 (inr there))) in
       ap (λ ident. (x.0.now, ident) ∷ a.linked_pairs names more) first
       ∙ ap (λ pairs. (x.0.now, ident_of_label p list context (Of (target_of x.1))) ∷ pairs) rest
 
@@ -87,7 +86,7 @@ module _ (p : Program) (hooks : Hooks) (list : List ℕ) (context : Contexts) (a
   -- the imports of an external, where what of it is meant is held
   pub external-made : (external : External) → IsExternalOf p external →
       AllZip (IsMade p hooks list context answers) (external_plan (external_of external))
-      (a.imports_of names external)
+      (a.import_declarations_of names external)
   external-made external is =
       zip-join (IsMade p hooks list context answers)
       (names_plan (map (λ name. name.now) external.names.items) external.specifier.now)
@@ -116,34 +115,34 @@ module _ (p : Program) (hooks : Hooks) (list : List ℕ) (context : Contexts) (a
 
   -- the statement by which a module loads a CommonJS module
   pub load-made : (taker : ℕ) (loaded : Loaded) →
-      IsReached p loaded.module →
-      IsCommonJs p loaded.module →
+      IsReached p loaded.which →
+      IsCommonJs p loaded.which →
       IsLoadOf p taker loaded →
-      IsMade p hooks list context answers (Loads taker loaded.module) (a.load_of names taker loaded)
+      IsMade p hooks list context answers (Loads taker loaded.which) (a.load_item_of names taker loaded)
   load-made taker loaded reached cjs is =
       m.loads loaded.whole (map (λ name. name.now) loaded.names.items) is.names is.whole.0 is.whole.1
-      (ap (λ i. f.load_statement i (a.loaded_whole names taker loaded.module loaded.whole) (a.loaded_pairs names taker loaded)) (named.loads loaded.module reached cjs)
-      ∙ ap (λ w. f.load_statement (ident_of_label p list context (Load loaded.module)) w (a.loaded_pairs names taker loaded)) (whole-is taker loaded.module loaded.whole is.whole.0)
-      ∙ ap (f.load_statement (ident_of_label p list context (Load loaded.module))
-      (if loaded.whole then Some (ident_of_label p list context (Of (l.CommonJs taker loaded.module e.Whole))) else None))
-      (pairs-are (λ name. t.CommonJs taker loaded.module (k.Named name)) (λ y. l.CommonJs taker loaded.module (e.Named y)) loaded.names.items (λ y. refl) (λ y. (is.names.all y).0)))
+      (ap (λ i. f.load_statement i (a.loaded_whole names taker loaded.which loaded.whole) (a.loaded_pairs names taker loaded)) (named.loads loaded.which reached cjs)
+      ∙ ap (λ w. f.load_statement (ident_of_label p list context (Load loaded.which)) w (a.loaded_pairs names taker loaded)) (whole-is taker loaded.which loaded.whole is.whole.0)
+      ∙ ap (f.load_statement (ident_of_label p list context (Load loaded.which))
+      (if loaded.whole then Some (ident_of_label p list context (Of (l.CommonJs taker loaded.which e.Whole))) else None))
+      (pairs-are (λ name. t.CommonJs taker loaded.which (k.Named name)) (λ y. l.CommonJs taker loaded.which (e.Named y)) loaded.names.items (λ y. refl) (λ y. (is.names.all y).0)))
 
   -- the object of a namespace that is meant
-  pub object-made : (d : ℕ) (its : List (Bor Text × Target)) →
+  pub object-made : (d : ℕ) (its : List (Bor Text × TargetRef)) →
       IsMeant p (Of (l.Namespace d)) →
-      AreLinked p d (map pair_of its) →
+      AreLinked p d (map target_pair its) →
       IsMade p hooks list context answers (HoldsNamespace d)
       (f.namespace_object no_notes (target_ident names (t.Namespace d)) (a.linked_pairs names its))
   object-made d its meant linked =
-      m.holds_namespace (map pair_of its) linked
+      m.holds_namespace (map target_pair its) linked
       (ap (λ i. f.namespace_object no_notes i (a.linked_pairs names its)) (named.targets (t.Namespace d) meant)
       ∙ ap (f.namespace_object no_notes (ident_of_label p list context (Of (l.Namespace d))))
       (linked-are its (λ x to there. by_namespace meant ((linked.all x to).0 there))))
 
   -- the export list
-  pub exports-made : (its : List (Bor Text × Target)) →
-      AreLinked p p.entry (map pair_of its) →
+  pub exports-made : (its : List (Bor Text × TargetRef)) →
+      AreLinked p p.entry (map target_pair its) →
       IsMade p hooks list context answers Exports (f.export_list (a.linked_pairs names its))
   exports-made its linked =
-      m.exports (map pair_of its) linked
+      m.exports (map target_pair its) linked
       (ap f.export_list (linked-are its (λ x to there. by_export ((linked.all x to).0 there))))

@@ -5,10 +5,10 @@ use Rattle.std.specs.List.{AllByRecursion, IsDistinct}
 use Rattle.std.proofs.lemmas.Map.Keys.{IsDistinct-cons, IsDistinct-head, IsDistinct-tail}
 use Rattle.bundle_order_graph.specs.Blocks.{Members, nothing, kept, left, BlocksOf, over, ends, goes_on}
 use Rattle.bundle_rules.specs.Program.{Program, AreBlocks}
-use Rattle.bundle_link_targets.proofs.ListLemmas.{map-on}
-use Rattle.bundle_merge_whole.specs.planned.Blocks.{block_of}
-use Rattle.bundle_merge_whole.specs.planned.Decided.{numbers_from}
-use Rattle.bundle_merge_names.specs.declared.part.BundleParts.{BundleParts}
+use Rattle.bundle_link_index.proofs.ProgramLemmas.{map_on as map-on}
+use Rattle.bundle_merge_theory.specs.planned.Blocks.{block_of}
+use Rattle.bundle_merge_theory.specs.planned.Decided.{numbers_from}
+use Rattle.bundle_merge_names.specs.declared.part.BundleInput.{BundleInput}
 use Rattle.bundle_merge_items.specs.Merged.{AreBlocksOnce}
 
 -- what is picked of numbers that differ from one does so too
@@ -60,7 +60,7 @@ one-once (first ∷ blocks) all block (suc k, within, is) =
     one-once blocks all.1 block (k, omega (arith, within), is)
 
 -- where modules are numbered by their places, and the blocks are those of the program
-pub blocks-once : (q : Program) (list : List ℕ) (n : ℕ) (bundle : BundleParts) →
+pub blocks-once : (q : Program) (list : List ℕ) (n : ℕ) (bundle : BundleInput) →
     list ≡ numbers_from zero n →
     AreBlocks q list (map (λ block. block.modules) (map block_of bundle.blocks.now)) →
     AreBlocksOnce bundle

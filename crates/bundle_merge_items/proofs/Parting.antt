@@ -2,28 +2,22 @@
 use Rattle.std.proofs.Common.{◌≡◌, ◌≤◌, ℕ, zero, suc, append_assoc, arith, Bool, true, false, cond, List, [], ◌∷◌, ◌++◌, refl, ap, ◌∙◌, length, map, drop, take}
 use Rattle.std.specs.Prelude.{filter}
 use Rattle.std.specs.List.{AllZip, flat_map}
-use Rattle.std.proofs.lemmas.List.{map-append}
-use Rattle.bundle_tree_piece.specs.declared.piece.Role.TheVariants as r
-use Rattle.bundle_tree_piece.specs.Item as h
-use Rattle.bundle_tree_piece.specs.Item.{Item}
+use Rattle.bundle_syntax.specs.declared.piece.Role.TheVariants as r
+use Rattle.bundle_syntax.specs.Item as h
+use Rattle.bundle_syntax.specs.Item.{Item}
 use Rattle.bundle_tree_ast.specs.declared.module.ModuleItem.{ModuleItem}
 use Rattle.bundle_tree_listed.specs.Tree.{module_item_items, node}
 use Rattle.bundle_rules.specs.Nodes.{side_by_side, parts}
 use Rattle.bundle_rules.specs.Places.{Spot, past, occurrences_from}
 use Rattle.bundle_rules.proofs.NodeLemmas.{side_by_side-cleared}
 use Rattle.bundle_rules.specs.Cleared.{cleared, cleared_item}
-use Rattle.bundle_scope_renamed.specs.fit.Sorts.{Sort}
-use Rattle.bundle_scope_renamed.specs.fit.Fits as f
-use Rattle.bundle_scope_renamed.specs.fit.Fits.{IsFit}
-use Rattle.bundle_scope_renamed.proofs.grown.Grown.{module_item_fit}
-use Rattle.bundle_merge_meaning.proofs.noted.Names.{node_ahead}
-use Rattle.bundle_merge_meaning.proofs.noted.Tops.{beside_node}
-use Rattle.bundle_merge_whole.proofs.fit.Facts.{fit_nodes}
-use Rattle.bundle_merge_items.specs.Stated.{is_name, names_in}
+use Rattle.bundle_scope_names.proofs.grown.Grown.{module_item_fit}
+use Rattle.bundle_merge_items.specs.Stated.{occurrence_count}
+use Rattle.bundle_merge_theory.proofs.fit.Clearing.{beside as fit-beside}
 
 -- the occurrences of a list are as many as its names, also where it is cleared
 pub names-counted : (s : Spot) (items : List Item) →
-    length (occurrences_from s (cleared items)) ≡ names_in items
+    length (occurrences_from s (cleared items)) ≡ occurrence_count items
 names-counted s [] = refl
 names-counted s (h.Open field head ∷ rest) =
     names-counted (past s (cleared_item (h.Open field head))) rest
@@ -35,11 +29,6 @@ names-counted s (h.Ident field x ctxt r.Reference ∷ rest) =
     ap suc (names-counted (past s (h.Ident field x 0 r.Reference)) rest)
 names-counted s (h.Hole field ∷ rest) = names-counted (past s (h.Hole field)) rest
 names-counted s (h.Close ∷ rest) = names-counted (past s h.Close) rest
-
--- what is cleared one behind another
-pub cleared-append : (xs ys : List Item) → cleared (xs ++ ys) ≡ cleared xs ++ cleared ys
-cleared-append [] ys = refl
-cleared-append (x ∷ xs) ys = ap (λ l. cleared_item x ∷ l) (cleared-append xs ys)
 
 -- two lists in turn, the first of which is one behind another
 pub zip-front : {A B : Type 0} (R : A → B → Type 0) (xs more : List A) (ys : List B) →
@@ -80,14 +69,6 @@ filter_mapped make test (x ∷ xs) = by (test (make x)) (filter_mapped make test
         ≡ length (cond b (x ∷ filter (λ x. test (make x)) xs) (filter (λ x. test (make x)) xs))
     by true is = ap suc is
     by false is = is
-
--- a node, or a name, stands beside what is behind it
-fit-beside : {sort : Sort} {field : ℕ} {items : List Item} → IsFit sort field items →
-    (rest : List Item) → side_by_side zero (items ++ rest) ≡ items ∷ side_by_side zero rest
-fit-beside (f.name takes) rest = refl
-fit-beside (f.node {field = field} {head = head} {inside = inside} takes fit) rest =
-    ap (side_by_side zero) (node_ahead field head inside rest)
-    ∙ beside_node field head (fit_nodes fit) rest
 
 -- the nodes of a module are the lists of its items
 beside : (items : List ModuleItem) →

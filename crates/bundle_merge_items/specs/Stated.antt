@@ -1,7 +1,7 @@
 -- What the items of a module state in a bundle, in turn, with what becomes of the module's occurrences.
 use Rattle.std.specs.Prelude.{ℕ, Bool, true, false, List, [], ◌∷◌, ◌++◌, Option, Some, None, drop, filter, length, map}
-use Rattle.bundle_tree_piece.specs.Item as h
-use Rattle.bundle_tree_piece.specs.Item.{Item}
+use Rattle.bundle_syntax.specs.Item as h
+use Rattle.bundle_syntax.specs.Item.{Item}
 use Rattle.bundle_tree_ast.specs.declared.module.ModuleItem.{ModuleItem}
 use Rattle.bundle_tree_ast.specs.declared.stmt.Stmt.{Stmt}
 use Rattle.bundle_tree_listed.specs.Tree.{option_items, stmt_items}
@@ -14,8 +14,8 @@ use Rattle.bundle_rules.specs.Idents.{Ident}
 use Rattle.bundle_rules.specs.Program.{Program, tree_of}
 use Rattle.bundle_rules.specs.Scopes.{ModuleKind}
 use Rattle.bundle_rules.specs.Statements.{own_statements}
-use Rattle.bundle_merge_whole.specs.made.Given.{Contexts}
-use Rattle.bundle_merge_whole.specs.made.Made.{IsStatedAs}
+use Rattle.bundle_merge_theory.specs.made.Given.{BundleContexts}
+use Rattle.bundle_merge_theory.specs.made.Made.{IsStatedAs}
 
 -- whether an element is an occurrence
 abbrev pub is_name : Item → Bool
@@ -23,8 +23,8 @@ is_name (h.Ident field sym ctxt role) = is_occurrence role
 is_name _ = false
 
 -- how many occurrences stand in a list
-abbrev pub names_in : List Item → ℕ
-names_in items = length (filter is_name items)
+abbrev pub occurrence_count : List Item → ℕ
+occurrence_count items = length (filter is_name items)
 
 -- what becomes of the occurrences of a list, and of `import.meta`
 abbrev pub work_by : List Rewrite → Option Ident → Work
@@ -49,11 +49,12 @@ pub data StateInTurn (meta : Option Ident) (default : Ident) : List ModuleItem �
       {parts : List (List Item)} {rewrites : List Rewrite} {more : List (List Item)}
       (made : Option Stmt) →
       States (work_by rewrites meta) default item (option_items (stmt_items 0) made) →
-      StateInTurn meta default items parts (drop (names_in part) rewrites) more →
+      StateInTurn meta default items parts (drop (occurrence_count part) rewrites) more →
       StateInTurn meta default (item ∷ items) (part ∷ parts) rewrites (as_list made ++ more)
 
 -- the own statements of module m, read as this kind, become these in turn
-abbrev pub AreStatedAs : Program → List ℕ → Contexts → ℕ → ModuleKind → List (List Item) → Type 0
+abbrev pub AreStatedAs : Program → List ℕ → BundleContexts → ℕ → ModuleKind → List (List Item) →
+    Type 0
 AreStatedAs q list context m kind made =
     AllZip (λ statement one. IsStatedAs q list context m kind statement one)
     (own_statements (tree_of q m)) made

@@ -2,7 +2,7 @@
 //! linker adds, in the order in which a bundle has them. Names are told apart by symbol and context.
 //!
 //! What comes in is each module with its items and its tables, and what the names of the modules are linked to
-//! (`BundleParts`). First all names are given (`Names`), which alone may be refused for contexts; then each item is
+//! (`BundleInput`). First all names are given (`Names`), which alone may be refused for contexts; then each item is
 //! made, block by block, over these names.
 #![tactic(auto)]
 
@@ -10,5 +10,7 @@ mod merge;
 mod module;
 mod outside;
 
-pub use bundle_merge_names::{Answered, BundleParts, Contexts, MergeError, Part, local_context};
-pub use merge::{Merged, merge_modules};
+pub use bundle_merge_names::{
+    Answered, BundleInput, BundleModule, FreshContexts, MergeError, local_context,
+};
+pub use merge::{MergedModule, merge_modules};

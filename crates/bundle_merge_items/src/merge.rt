@@ -4,28 +4,28 @@ ghost use Rattle.std.specs.Prelude.{◌≡◌, ◌<◌, ◌-◌, ◌++◌, ◌�
 ghost use Rattle.std.specs.List.{list_any};
 ghost use Rattle.bundle_rules.specs.Bundle.{Helps, Stars};
 ghost use Rattle.bundle_rules.specs.Program.{Program};
-ghost use Rattle.bundle_merge_whole.specs.made.Given.{Answer};
-ghost use Rattle.bundle_merge_whole.specs.made.Alone.{AreSound};
-ghost use Rattle.bundle_merge_whole.specs.planned.Decided.{back_plan, external_plan, front_plan, module_plan, object_plan, one_if};
-ghost use Rattle.bundle_merge_whole.specs.sound.Decided.{AreTold};
+ghost use Rattle.bundle_merge_theory.specs.made.Given.{HookAnswer};
+ghost use Rattle.bundle_merge_theory.specs.made.Alone.{AreTreesSound};
+ghost use Rattle.bundle_merge_theory.specs.planned.Decided.{back_plan, external_plan, front_plan, module_plan, object_plan, one_if};
+ghost use Rattle.bundle_merge_theory.specs.sound.Decided.{AreTablesTold};
 ghost use Rattle.bundle_merge_names.specs.Bundle.{AreBundleParts};
 ghost use Rattle.bundle_merge_names.specs.Numbers.{position};
 ghost use Rattle.bundle_merge_names.specs.Refused.{RefusesNames, TakesFew};
 ghost use Rattle.bundle_merge_items.specs.Adds.{AreAnswered};
-ghost use Rattle.bundle_merge_items.specs.Blocks.{AddsBlocks, AddsOwned, AddsPlan, AreItemsMade, AreWithin, InBundle, IsBlockPut, IsPlaced};
+ghost use Rattle.bundle_merge_items.specs.Blocks.{AddsBlocks, AddsOwned, AddsPlan, AreItemsMade, AreBundleModules, InBundle, IsBlockPut, IsBlockPlaced};
 ghost use Rattle.bundle_merge_items.specs.Merged.{AddsBlock, AreBlocksOnce, IsMergedOf};
 ghost use Rattle.bundle_order.specs.Owned.{AreTogether};
-ghost use Rattle.bundle_tree_piece.specs.Item.{Item};
+ghost use Rattle.bundle_syntax.specs.Item.{Item};
 ghost use Rattle.bundle_tree_listed.specs.Tree.{stmt_items};
 ghost use Rattle.bundle_merge_injected.specs.Listed.{pair_of};
 ghost use Rattle.bundle_merge_items.specs.Added as added;
-ghost use Rattle.bundle_merge_items.specs.Added.{AreExports, AreLinkedPairs, IsObject, exports_of, items_of};
+ghost use Rattle.bundle_merge_items.specs.Added.{AreExports, AreLinkedPairs, IsObject, export_list_of, module_item_lists};
 
 use crate::module::{add_item, add_module, add_stmt};
 use crate::outside::{add_external, add_helper};
-use bundle_link_targets::Target;
+use bundle_link_targets::TargetRef;
 use bundle_merge_injected::{Pair, export_list, export_star, namespace_object};
-use bundle_merge_names::{BundleParts, Contexts, MergeError, Names, names_of};
+use bundle_merge_names::{BundleInput, BundleNames, FreshContexts, MergeError, names_of};
 use bundle_order::sorted_numbers;
 use bundle_order_sort::{Block, arrange};
 use bundle_tree_ast::{ExportMetadata, Module, Stmt};
@@ -33,35 +33,38 @@ use std::alloc::{AllocError, Global};
 
 /// The items of a bundle in their order, as a module, and the contexts that are free.
 #[derive(Drop)]
-pub struct Merged {
-    pub module: Module,
-    pub contexts: Contexts,
+pub struct MergedModule {
+    pub tree: Module,
+    pub contexts: FreshContexts,
 }
 
 /// The modules of a bundle as one. Refused where contexts run out, and for memory.
-pub fn merge_modules(alloc: Global, bundle: &BundleParts<'_, '_, '_>) -> Result<Merged, MergeError>
+pub fn merge_modules(
+    alloc: Global,
+    bundle: &BundleInput<'_, '_, '_>,
+) -> Result<MergedModule, MergeError>
     ensures merged { IfOk result (λ merged.
-        (q : Program) (list : List ℕ) (answers : ℕ → Option Answer)
+        (q : Program) (list : List ℕ) (answers : ℕ → Option HookAnswer)
         (meta : ℕ → Bool) (count : ℕ → ℕ) →
-        AreSound q list →
+        AreTreesSound q list →
         AreBundleParts q list answers bundle.now →
         AreBlocksOnce bundle.now →
         AreAnswered q answers →
-        AreTold q (length bundle.now.parts.now) meta count →
+        AreTablesTold q (length bundle.now.parts.now) meta count →
         IsMergedOf q list answers bundle.now meta count merged) }
     ensures few { IfOk result (λ merged.
-        (q : Program) (list : List ℕ) (answers : ℕ → Option Answer) →
+        (q : Program) (list : List ℕ) (answers : ℕ → Option HookAnswer) →
         AreBundleParts q list answers bundle.now →
         TakesFew q list answers (position bundle.now.contexts) (position merged.contexts)) }
     ensures refused { IfErr result (λ refusal.
-        (q : Program) (list : List ℕ) (answers : ℕ → Option Answer) →
+        (q : Program) (list : List ℕ) (answers : ℕ → Option HookAnswer) →
         AreBundleParts q list answers bundle.now →
         RefusesNames q list answers (position bundle.now.contexts) refusal) }
 {
     let names = names_of(alloc, bundle)?;
-    let module = merged_module(alloc, bundle, &names)?;
-    Ok(Merged {
-        module,
+    let tree = merged_module(alloc, bundle, &names)?;
+    Ok(MergedModule {
+        tree,
         contexts: names.contexts(),
     })
 }
@@ -69,8 +72,8 @@ pub fn merge_modules(alloc: Global, bundle: &BundleParts<'_, '_, '_>) -> Result<
 // The items of a bundle that has these names.
 fn merged_module<'a>(
     alloc: Global,
-    bundle: &BundleParts<'_, 'a, '_>,
-    names: &Names<'a>,
+    bundle: &BundleInput<'_, 'a, '_>,
+    names: &BundleNames<'a>,
 ) -> Result<Module, AllocError>
     ensures { IfOk result (λ merged. AreBlocksOnce bundle.now →
         InBundle bundle.now names.now (λ q list answers context d.
@@ -84,7 +87,7 @@ fn merged_module<'a>(
 }
 
 fn no_items(alloc: Global) -> Module
-    ensures { items_of result ≡ [] }
+    ensures { module_item_lists result ≡ [] }
 {
     Module {
         body: Vec::new(alloc),
@@ -94,8 +97,8 @@ fn no_items(alloc: Global) -> Module
 // Adds what stands in front of the blocks: what is imported, and the helper.
 fn add_front<'a>(
     alloc: Global,
-    bundle: &BundleParts<'_, 'a, '_>,
-    names: &Names<'a>,
+    bundle: &BundleInput<'_, 'a, '_>,
+    names: &BundleNames<'a>,
     items: &mut Module,
 ) -> Result<(), AllocError>
     ensures { OnOk result
@@ -109,8 +112,8 @@ fn add_front<'a>(
 // Adds what is imported.
 fn add_externals<'a>(
     alloc: Global,
-    bundle: &BundleParts<'_, 'a, '_>,
-    names: &Names<'a>,
+    bundle: &BundleInput<'_, 'a, '_>,
+    names: &BundleNames<'a>,
     items: &mut Module,
 ) -> Result<(), AllocError>
     ensures { OnOk result
@@ -126,8 +129,8 @@ fn add_externals<'a>(
 // Adds the helper, where some module is CommonJS.
 fn add_helpers<'a>(
     alloc: Global,
-    bundle: &BundleParts<'_, 'a, '_>,
-    names: &Names<'a>,
+    bundle: &BundleInput<'_, 'a, '_>,
+    names: &BundleNames<'a>,
     items: &mut Module,
 ) -> Result<(), AllocError>
     ensures { OnOk result
@@ -144,8 +147,8 @@ fn add_helpers<'a>(
 // Adds what stands behind the blocks: the stars of externals, and what is exported.
 fn add_back<'a>(
     alloc: Global,
-    bundle: &BundleParts<'_, 'a, '_>,
-    names: &Names<'a>,
+    bundle: &BundleInput<'_, 'a, '_>,
+    names: &BundleNames<'a>,
     items: &mut Module,
 ) -> Result<(), AllocError>
     ensures { OnOk result
@@ -159,8 +162,8 @@ fn add_back<'a>(
 // Adds the stars of externals.
 fn add_stars<'a>(
     alloc: Global,
-    bundle: &BundleParts<'_, 'a, '_>,
-    names: &Names<'a>,
+    bundle: &BundleInput<'_, 'a, '_>,
+    names: &BundleNames<'a>,
     items: &mut Module,
 ) -> Result<(), AllocError>
     ensures { OnOk result
@@ -175,8 +178,8 @@ fn add_stars<'a>(
 // Adds the blocks.
 fn add_blocks<'a>(
     alloc: Global,
-    bundle: &BundleParts<'_, 'a, '_>,
-    names: &Names<'a>,
+    bundle: &BundleInput<'_, 'a, '_>,
+    names: &BundleNames<'a>,
     items: &mut Module,
 ) -> Result<(), AllocError>
     ensures { OnOk result (
@@ -193,8 +196,8 @@ fn add_blocks<'a>(
 // Adds the items of a block in their order.
 fn add_block<'a>(
     alloc: Global,
-    bundle: &BundleParts<'_, 'a, '_>,
-    names: &Names<'a>,
+    bundle: &BundleInput<'_, 'a, '_>,
+    names: &BundleNames<'a>,
     block: &Block,
     items: &mut Module,
 ) -> Result<(), AllocError>
@@ -213,15 +216,15 @@ fn add_block<'a>(
 // Puts the items of a block: those of its modules, and then the free ones; sorted, where it is a cycle.
 fn put_block<'a>(
     alloc: Global,
-    bundle: &BundleParts<'_, 'a, '_>,
-    names: &Names<'a>,
+    bundle: &BundleInput<'_, 'a, '_>,
+    names: &BundleNames<'a>,
     block: &Block,
     its: &mut Module,
 ) -> Result<(), AllocError>
     ensures { OnOk result (
         AreBlocksOnce bundle.now →
         Contains bundle.now.blocks.now block.now →
-        items_of its.old ≡ [] →
+        module_item_lists its.old ≡ [] →
         InBundle bundle.now names.now (λ q list answers context d.
         IsBlockPut q list answers context d block.now its.new)) }
 {
@@ -242,7 +245,7 @@ fn sort_cycle(
     ensures { OnOk result (
         length owners.now ≡ length its.old.body.items →
         AreTogether owners.now →
-        IsPlaced block.now.is_cycle (items_of its.old) owners.now (items_of its.new)) }
+        IsBlockPlaced block.now.is_cycle (module_item_lists its.old) owners.now (module_item_lists its.new)) }
 {
     if block.is_cycle {
         return sort(alloc, its, owners);
@@ -255,7 +258,7 @@ fn sort(alloc: Global, items: &mut Module, owners: &[Option<usize>]) -> Result<(
     ensures { OnOk result (
         length owners.now ≡ length items.old.body.items →
         AreTogether owners.now →
-        IsPlaced true (items_of items.old) owners.now (items_of items.new)) }
+        IsBlockPlaced true (module_item_lists items.old) owners.now (module_item_lists items.new)) }
 {
     let order = sorted_numbers(alloc, &items.body, owners)?;
     arrange(alloc, &mut items.body, &order)?;
@@ -265,19 +268,19 @@ fn sort(alloc: Global, items: &mut Module, owners: &[Option<usize>]) -> Result<(
 // Adds the items of the modules of a block.
 fn add_modules<'a>(
     alloc: Global,
-    bundle: &BundleParts<'_, 'a, '_>,
-    names: &Names<'a>,
+    bundle: &BundleInput<'_, 'a, '_>,
+    names: &BundleNames<'a>,
     block: &Block,
     its: &mut Module,
     owners: &mut Vec<Option<usize>>,
 ) -> Result<(), AllocError>
     ensures { OnOk result (
-        AreWithin bundle.now block.now.places.items →
+        AreBundleModules bundle.now block.now.places.items →
         AddsOwned bundle.now names.now (λ d. flat_map (module_plan d) block.now.places.items)
         its.old its.new owners.old.items owners.new.items) }
 {
-    for module in &block.places {
-        put_module(alloc, bundle, names, *module, its, owners)?;
+    for which in &block.places {
+        put_module(alloc, bundle, names, *which, its, owners)?;
     }
     Ok(())
 }
@@ -285,30 +288,30 @@ fn add_modules<'a>(
 // Adds the items of a module, and notes that they are of it.
 fn put_module<'a>(
     alloc: Global,
-    bundle: &BundleParts<'_, 'a, '_>,
-    names: &Names<'a>,
-    module: usize,
+    bundle: &BundleInput<'_, 'a, '_>,
+    names: &BundleNames<'a>,
+    which: usize,
     its: &mut Module,
     owners: &mut Vec<Option<usize>>,
 ) -> Result<(), AllocError>
     ensures { OnOk result (
-        «module» < length bundle.now.parts.now →
-        AddsOwned bundle.now names.now (λ d. module_plan d «module»)
+        which < length bundle.now.parts.now →
+        AddsOwned bundle.now names.now (λ d. module_plan d which)
         its.old its.new owners.old.items owners.new.items) }
 {
-    let Some(part) = bundle.parts.get(module) else {
+    let Some(part) = bundle.parts.get(which) else {
         return Ok(());
     };
-    add_module(alloc, bundle, names, module, part, its)?;
-    note_owner(owners, Some(module), its.body.len())?;
+    add_module(alloc, bundle, names, which, part, its)?;
+    note_owner(owners, Some(which), its.body.len())?;
     Ok(())
 }
 
 // Adds the objects of the modules of a block that are meant, which are free.
 fn add_objects<'a>(
     alloc: Global,
-    bundle: &BundleParts<'_, 'a, '_>,
-    names: &Names<'a>,
+    bundle: &BundleInput<'_, 'a, '_>,
+    names: &BundleNames<'a>,
     block: &Block,
     its: &mut Module,
     owners: &mut Vec<Option<usize>>,
@@ -317,8 +320,8 @@ fn add_objects<'a>(
         AddsOwned bundle.now names.now (λ d. flat_map (object_plan d) block.now.places.items)
         its.old its.new owners.old.items owners.new.items) }
 {
-    for module in &block.places {
-        put_object(alloc, bundle, names, *module, its, owners)?;
+    for which in &block.places {
+        put_object(alloc, bundle, names, *which, its, owners)?;
     }
     Ok(())
 }
@@ -326,19 +329,19 @@ fn add_objects<'a>(
 // Adds the object of a module's namespace, if it is meant, and notes that it is free.
 fn put_object<'a>(
     alloc: Global,
-    bundle: &BundleParts<'_, 'a, '_>,
-    names: &Names<'a>,
-    module: usize,
+    bundle: &BundleInput<'_, 'a, '_>,
+    names: &BundleNames<'a>,
+    which: usize,
     its: &mut Module,
     owners: &mut Vec<Option<usize>>,
 ) -> Result<(), AllocError>
-    ensures { OnOk result (AddsOwned bundle.now names.now (λ d. object_plan d «module»)
+    ensures { OnOk result (AddsOwned bundle.now names.now (λ d. object_plan d which)
         its.old its.new owners.old.items owners.new.items) }
 {
-    if !bundle.linking.is_object_meant(module) {
+    if !bundle.linking.is_object_meant(which) {
         return Ok(());
     }
-    add_object(alloc, bundle, names, module, its)?;
+    add_object(alloc, bundle, names, which, its)?;
     note_owner(owners, None, its.body.len())?;
     Ok(())
 }
@@ -361,30 +364,30 @@ fn note_owner(
 // Adds the object of a module's namespace.
 fn add_object<'a>(
     alloc: Global,
-    bundle: &BundleParts<'_, 'a, '_>,
-    names: &Names<'a>,
-    module: usize,
+    bundle: &BundleInput<'_, 'a, '_>,
+    names: &BundleNames<'a>,
+    which: usize,
     its: &mut Module,
 ) -> Result<(), AllocError>
-    ensures { OnOk result ((made : List Item) × IsObject bundle.now.linking.now names.now «module» made
-        × (items_of its.new ≡ items_of its.old ++ made ∷ [])) }
+    ensures { OnOk result ((made : List Item) × IsObject bundle.now.linking.now names.now which made
+        × (module_item_lists its.new ≡ module_item_lists its.old ++ made ∷ [])) }
 {
-    let object = namespace_stmt(alloc, bundle, names, module)?;
+    let object = namespace_stmt(alloc, bundle, names, which)?;
     add_stmt(its, object)
 }
 
 // The object of a module's namespace.
 fn namespace_stmt<'a>(
     alloc: Global,
-    bundle: &BundleParts<'_, 'a, '_>,
-    names: &Names<'a>,
-    module: usize,
+    bundle: &BundleInput<'_, 'a, '_>,
+    names: &BundleNames<'a>,
+    which: usize,
 ) -> Result<Stmt, AllocError>
     ensures { IfOk result (λ made.
-        IsObject bundle.now.linking.now names.now «module» (stmt_items 0 made)) }
+        IsObject bundle.now.linking.now names.now which (stmt_items 0 made)) }
 {
-    let object = names.target(Target::Namespace { module });
-    let pairs = linked_pairs(alloc, bundle, names, module)?;
+    let object = names.target(TargetRef::Namespace { which });
+    let pairs = linked_pairs(alloc, bundle, names, which)?;
     let notes = ExportMetadata {
         injected: false,
         export_ctxt: None,
@@ -395,13 +398,13 @@ fn namespace_stmt<'a>(
 // Adds the export list, where the entry exports something.
 fn add_exports<'a>(
     alloc: Global,
-    bundle: &BundleParts<'_, 'a, '_>,
-    names: &Names<'a>,
+    bundle: &BundleInput<'_, 'a, '_>,
+    names: &BundleNames<'a>,
     items: &mut Module,
 ) -> Result<(), AllocError>
     ensures { OnOk result ((made : List (List Item)) ×
         AreExports bundle.now.linking.now names.now (length bundle.now.parts.now) made
-        × (items_of items.new ≡ items_of items.old ++ made)) }
+        × (module_item_lists items.new ≡ module_item_lists items.old ++ made)) }
 {
     match bundle.parts.len().checked_sub(1) {
         Some(entry) => {
@@ -419,7 +422,7 @@ fn add_export_list<'a>(
     items: &mut Module,
 ) -> Result<(), AllocError>
     ensures { OnOk result
-        (items_of items.new ≡ items_of items.old ++ exports_of (map pair_of pairs.now)) }
+        (module_item_lists items.new ≡ module_item_lists items.old ++ export_list_of (map pair_of pairs.now)) }
 {
     if pairs.is_empty() {
         return Ok(());
@@ -430,22 +433,22 @@ fn add_export_list<'a>(
 // The names that linking gives a module, with what stands for them.
 fn linked_pairs<'a>(
     alloc: Global,
-    bundle: &BundleParts<'_, 'a, '_>,
-    names: &Names<'a>,
-    module: usize,
+    bundle: &BundleInput<'_, 'a, '_>,
+    names: &BundleNames<'a>,
+    which: usize,
 ) -> Result<Vec<Pair<'a>>, AllocError>
     ensures { IfOk result (λ pairs.
-        AreLinkedPairs bundle.now.linking.now names.now «module» (map pair_of pairs.items)) }
+        AreLinkedPairs bundle.now.linking.now names.now which (map pair_of pairs.items)) }
 {
-    pairs_of(alloc, names, bundle.linking.linked_names(module))
+    pairs_of(alloc, names, bundle.linking.linked_names(which))
 }
 
 // Linked names, with what stands for them.
 #[tactic(auto, using(crate::proofs::Adding::adding))]
 fn pairs_of<'a>(
     alloc: Global,
-    names: &Names<'a>,
-    linked: &[(&'a str, Target<'a>)],
+    names: &BundleNames<'a>,
+    linked: &[(&'a str, TargetRef<'a>)],
 ) -> Result<Vec<Pair<'a>>, AllocError>
     ensures { IfOk result (λ pairs.
         map pair_of pairs.items ≡ added.linked_pairs names.now linked.now) }

@@ -5,31 +5,33 @@ ghost use Rattle.std.specs.Prelude.{◌≡◌, ◌++◌, ◌∷◌, ℕ, Bool, L
 ghost use Rattle.bundle_rules.specs.Meaning.{HasKind};
 ghost use Rattle.bundle_rules.specs.Program.{IsReached, Program};
 ghost use Rattle.bundle_rules.specs.Scopes.{Es, ModuleKind};
-ghost use Rattle.bundle_tree_piece.specs.Item.{Item, item_of};
+ghost use Rattle.bundle_syntax.specs.Item.{Item, item_of};
 ghost use Rattle.bundle_tree_places.specs.Marks.{ident_of};
 ghost use Rattle.bundle_tree_places.specs.Parted.{part_items};
 ghost use Rattle.bundle_tree_ast.specs.declared.stmt.Stmt as tree;
 ghost use Rattle.bundle_tree_listed.specs.Tree.{module_item_items, option_items, stmt_items};
 ghost use Rattle.bundle_tree_rewrite.specs.Stated.{States};
-ghost use Rattle.bundle_merge_whole.specs.made.Given as given;
-ghost use Rattle.bundle_merge_whole.specs.planned.Decided.{module_plan};
-ghost use Rattle.bundle_merge_whole.specs.sound.Decided.{AreTold};
+ghost use Rattle.bundle_merge_theory.specs.made.Given as given;
+ghost use Rattle.bundle_merge_theory.specs.planned.Decided.{module_plan};
+ghost use Rattle.bundle_merge_theory.specs.sound.Decided.{AreTablesTold};
 ghost use Rattle.bundle_merge_names.specs.Bundle.{written_items};
 ghost use Rattle.bundle_merge_names.specs.Idents.{label_ident};
 ghost use Rattle.bundle_merge_names.specs.declared.names.Label.TheVariants as labels;
 ghost use Rattle.bundle_merge_items.specs.Added as added;
-ghost use Rattle.bundle_merge_items.specs.Added.{items_of, local_ident};
-ghost use Rattle.bundle_merge_items.specs.Adds.{Adds, AddsFor, AddsMeta, IsNamedBundle, IsPlanned, behind_plan, decided_of, meta_plan};
+ghost use Rattle.bundle_merge_items.specs.Added.{module_item_lists, local_ident};
+ghost use Rattle.bundle_merge_items.specs.Adds.{AddsItems, AddsFor, AddsMeta, IsNamedBundle, ArePlannedCauses, behind_plan, decided_of, meta_plan};
 ghost use Rattle.bundle_merge_items.specs.Stated as stated;
-ghost use Rattle.bundle_merge_items.specs.Stated.{AreStatedAs, StateInTurn, names_in, work_by};
+ghost use Rattle.bundle_merge_items.specs.Stated.{AreStatedAs, StateInTurn, occurrence_count, work_by};
 
 use crate::outside::add_load;
 use bundle_link_targets::Loaded;
 use bundle_merge_injected::{LoadNames, constant, load_function};
-use bundle_merge_names::{Answered, Body, BundleParts, Label, Names, Part, body_of, own_names};
+use bundle_merge_names::{
+    Answered, Body, BundleInput, BundleModule, BundleNames, Label, body_of, own_names,
+};
+use bundle_syntax::{Piece, Role};
 use bundle_tree_ast::{ExportMetadata, Module, ModuleItem, Stmt};
 use bundle_tree_list::pieces_of_body;
-use bundle_tree_piece::{Piece, Role};
 use bundle_tree_places::{Name, parts};
 use bundle_tree_rebuild::Rewrite;
 use bundle_tree_rewrite::{Rewriting, rebuild_item, rewritten_object, stated_item};
@@ -38,30 +40,34 @@ use std::alloc::{AllocError, Global};
 /// Adds the items of a module.
 pub(crate) fn add_module<'a>(
     alloc: Global,
-    bundle: &BundleParts<'_, 'a, '_>,
-    names: &Names<'a>,
-    module: usize,
-    part: &Part<'_, 'a>,
+    bundle: &BundleInput<'_, 'a, '_>,
+    names: &BundleNames<'a>,
+    which: usize,
+    part: &BundleModule<'_, 'a>,
     items: &mut Module,
 ) -> Result<(), AllocError>
     ensures { OnOk result (
-        slice_get bundle.now.parts.now «module» ≡ Some part.now →
-        AddsFor bundle.now names.now (IsPlanned bundle.now (λ d. module_plan d «module»))
+        slice_get bundle.now.parts.now which ≡ Some part.now →
+        AddsFor bundle.now names.now (ArePlannedCauses bundle.now (λ d. module_plan d which))
         items.old items.new) }
 {
     add_written(alloc, part, items)?;
-    let own = own_statements(alloc, bundle, names, module, part)?;
-    if bundle.linking.is_common_js(module) {
-        add_load_function(alloc, names, module, own, items)
+    let own = own_statements(alloc, bundle, names, which, part)?;
+    if bundle.linking.is_common_js(which) {
+        add_load_function(alloc, names, which, own, items)
     } else {
-        add_es(alloc, bundle, names, module, own, items)
+        add_es(alloc, bundle, names, which, own, items)
     }
 }
 
 // Adds the statement that holds the `import.meta` of a module as it is, if it is there already.
-fn add_written(alloc: Global, part: &Part<'_, '_>, items: &mut Module) -> Result<(), AllocError>
-    ensures { OnOk result (items_of items.new
-        ≡ items_of items.old ++ flat_map added.copy_of (written_items part.now)) }
+fn add_written(
+    alloc: Global,
+    part: &BundleModule<'_, '_>,
+    items: &mut Module,
+) -> Result<(), AllocError>
+    ensures { OnOk result (module_item_lists items.new
+        ≡ module_item_lists items.old ++ flat_map added.copied_item (written_items part.now)) }
 {
     for item in part.written_items() {
         add_item(items, rebuild_item(alloc, item, &[])?)?;
@@ -72,15 +78,15 @@ fn add_written(alloc: Global, part: &Part<'_, '_>, items: &mut Module) -> Result
 // Adds the load function of a CommonJS module, in which these are its statements.
 fn add_load_function<'a>(
     alloc: Global,
-    names: &Names<'a>,
-    module: usize,
+    names: &BundleNames<'a>,
+    which: usize,
     own: Vec<Stmt>,
     items: &mut Module,
 ) -> Result<(), AllocError>
-    ensures { OnOk result (items_of items.new ≡ items_of items.old
-        ++ added.definition_of names.now «module» (map (stmt_items 0) own.items) ∷ []) }
+    ensures { OnOk result (module_item_lists items.new ≡ module_item_lists items.old
+        ++ added.definition_of names.now which (map (stmt_items 0) own.items) ∷ []) }
 {
-    let load = definition(alloc, names, module, own)?;
+    let load = definition(alloc, names, which, own)?;
     add_stmt(items, load)
 }
 
@@ -88,53 +94,53 @@ fn add_load_function<'a>(
 #[tactic(auto, using(crate::proofs::Adding::adding))]
 fn definition<'a>(
     alloc: Global,
-    names: &Names<'a>,
-    module: usize,
+    names: &BundleNames<'a>,
+    which: usize,
     own: Vec<Stmt>,
 ) -> Result<Stmt, AllocError>
     ensures { IfOk result (λ made. stmt_items 0 made
-        ≡ added.definition_of names.now «module» (map (stmt_items 0) own.items)) }
+        ≡ added.definition_of names.now which (map (stmt_items 0) own.items)) }
 {
-    load_function(alloc, load_names(names, module), own)
+    load_function(alloc, load_names(names, which), own)
 }
 
 // The names of the load function of a CommonJS module.
-fn load_names<'a>(names: &Names<'a>, module: usize) -> LoadNames<'a>
-    ensures load { ident_of result.load ≡ label_ident names.now (labels.Load «module») }
+fn load_names<'a>(names: &BundleNames<'a>, which: usize) -> LoadNames<'a>
+    ensures load { ident_of result.load ≡ label_ident names.now (labels.Load which) }
     ensures helper { ident_of result.helper ≡ label_ident names.now labels.Helper }
-    ensures own { ident_of result.module ≡ local_ident names.now «module» (codes "module") }
-    ensures exports { ident_of result.exports ≡ local_ident names.now «module» (codes "exports") }
+    ensures own { ident_of result.module_object ≡ local_ident names.now which (codes "module") }
+    ensures exports { ident_of result.exports ≡ local_ident names.now which (codes "exports") }
 {
     LoadNames {
-        load: names.of(Label::Load { module }),
+        load: names.of(Label::Load { which }),
         helper: names.of(Label::Helper),
-        module: names.local(module, "module"),
-        exports: names.local(module, "exports"),
+        module_object: names.local(which, "module"),
+        exports: names.local(which, "exports"),
     }
 }
 
 // Adds the items of an ES module, of which these are its own statements.
 fn add_es<'a>(
     alloc: Global,
-    bundle: &BundleParts<'_, 'a, '_>,
-    names: &Names<'a>,
-    module: usize,
+    bundle: &BundleInput<'_, 'a, '_>,
+    names: &BundleNames<'a>,
+    which: usize,
     own: Vec<Stmt>,
     items: &mut Module,
 ) -> Result<(), AllocError>
     ensures { OnOk result (
-        (q : Program) (list : List ℕ) (answers : ℕ → Option given.Answer)
-        (context : given.Contexts) (meta : ℕ → Bool) (count : ℕ → ℕ) →
+        (q : Program) (list : List ℕ) (answers : ℕ → Option given.HookAnswer)
+        (context : given.BundleContexts) (meta : ℕ → Bool) (count : ℕ → ℕ) →
         IsNamedBundle q list answers context bundle.now names.now →
-        AreTold q (length bundle.now.parts.now) meta count →
-        IsReached q «module» →
-        AreStatedAs q list context «module» Es (map (stmt_items 0) own.items) →
-        Adds q list answers context
-        (meta_plan q answers «module» ++ behind_plan (decided_of bundle.now meta count) «module»)
+        AreTablesTold q (length bundle.now.parts.now) meta count →
+        IsReached q which →
+        AreStatedAs q list context which Es (map (stmt_items 0) own.items) →
+        AddsItems q list answers context
+        (meta_plan q answers which ++ behind_plan (decided_of bundle.now meta count) which)
         items.old items.new) }
 {
-    add_meta(alloc, bundle, names, module, items)?;
-    add_loads(alloc, names, module, bundle.linking.loads(module), items)?;
+    add_meta(alloc, bundle, names, which, items)?;
+    add_loads(alloc, names, which, bundle.linking.loads(which), items)?;
     add_stmts(items, own)
 }
 
@@ -142,20 +148,20 @@ fn add_es<'a>(
 // already.
 fn add_meta(
     alloc: Global,
-    bundle: &BundleParts<'_, '_, '_>,
-    names: &Names<'_>,
-    module: usize,
+    bundle: &BundleInput<'_, '_, '_>,
+    names: &BundleNames<'_>,
+    which: usize,
     items: &mut Module,
 ) -> Result<(), AllocError>
     ensures { OnOk result (
-        (q : Program) (list : List ℕ) (answers : ℕ → Option given.Answer)
-        (context : given.Contexts) →
+        (q : Program) (list : List ℕ) (answers : ℕ → Option given.HookAnswer)
+        (context : given.BundleContexts) →
         IsNamedBundle q list answers context bundle.now names.now →
-        IsReached q «module» →
-        Adds q list answers context (meta_plan q answers «module») items.old items.new) }
+        IsReached q which →
+        AddsItems q list answers context (meta_plan q answers which) items.old items.new) }
 {
-    match bundle.answer(module) {
-        Some(answer) => add_meta_object(alloc, names, module, answer, items),
+    match bundle.answer(which) {
+        Some(answer) => add_meta_object(alloc, names, which, answer, items),
         None => Ok(()),
     }
 }
@@ -164,16 +170,16 @@ fn add_meta(
 #[tactic(auto, using(crate::proofs::Adding::adding))]
 fn add_loads<'a>(
     alloc: Global,
-    names: &Names<'a>,
-    module: usize,
+    names: &BundleNames<'a>,
+    which: usize,
     loads: &[Loaded<'a>],
     items: &mut Module,
 ) -> Result<(), AllocError>
-    ensures { OnOk result (items_of items.new
-        ≡ items_of items.old ++ map (added.load_of names.now «module») loads.now) }
+    ensures { OnOk result (module_item_lists items.new
+        ≡ module_item_lists items.old ++ map (added.load_item_of names.now which) loads.now) }
 {
     for loaded in loads {
-        add_load(alloc, names, module, loaded, items)?;
+        add_load(alloc, names, which, loaded, items)?;
     }
     Ok(())
 }
@@ -181,25 +187,25 @@ fn add_loads<'a>(
 // Adds `const importMeta = { .. };`.
 fn add_meta_object(
     alloc: Global,
-    names: &Names<'_>,
-    module: usize,
+    names: &BundleNames<'_>,
+    which: usize,
     answer: Answered<'_, '_>,
     items: &mut Module,
 ) -> Result<(), AllocError>
-    ensures { OnOk result (AddsMeta names.now «module» answer.entry items.old items.new) }
+    ensures { OnOk result (AddsMeta names.now which answer.entry items.old items.new) }
 {
     let rewrites = own_names(
         alloc,
         answer.pieces,
         answer.denotations,
-        names.answered(module),
+        names.answered(which),
     )?;
     let rewriting = Rewriting {
         rewrites: &rewrites,
         meta: None,
     };
     let object = rewritten_object(alloc, answer.properties, rewriting)?;
-    let name = names.of(Label::Meta { module });
+    let name = names.of(Label::Meta { which });
     add_stmt(
         items,
         constant(alloc, name, object, ExportMetadata::default())?,
@@ -209,22 +215,22 @@ fn add_meta_object(
 // The own statements of a module.
 fn own_statements<'a>(
     alloc: Global,
-    bundle: &BundleParts<'_, 'a, '_>,
-    names: &Names<'a>,
-    module: usize,
-    part: &Part<'_, 'a>,
+    bundle: &BundleInput<'_, 'a, '_>,
+    names: &BundleNames<'a>,
+    which: usize,
+    part: &BundleModule<'_, 'a>,
 ) -> Result<Vec<Stmt>, AllocError>
     ensures { IfOk result (λ own.
-        (q : Program) (list : List ℕ) (answers : ℕ → Option given.Answer)
-        (context : given.Contexts) (kind : ModuleKind) →
+        (q : Program) (list : List ℕ) (answers : ℕ → Option given.HookAnswer)
+        (context : given.BundleContexts) (kind : ModuleKind) →
         IsNamedBundle q list answers context bundle.now names.now →
-        slice_get bundle.now.parts.now «module» ≡ Some part.now →
-        HasKind q «module» kind →
-        AreStatedAs q list context «module» kind (map (stmt_items 0) own.items)) }
+        slice_get bundle.now.parts.now which ≡ Some part.now →
+        HasKind q which kind →
+        AreStatedAs q list context which kind (map (stmt_items 0) own.items)) }
 {
     let list = pieces_of_body(alloc, part.own_items())?;
-    let body = body_of(alloc, part, &list, module, bundle.linking, names)?;
-    let default = names.local(module, "default");
+    let body = body_of(alloc, part, &list, which, bundle.linking, names)?;
+    let default = names.local(which, "default");
     let nodes = parts::top_items(alloc, &list)?;
     stated_items(alloc, part.own_items(), &nodes, &body, default)
 }
@@ -233,7 +239,7 @@ fn own_statements<'a>(
 fn stated_items<'a>(
     alloc: Global,
     items: &[ModuleItem],
-    nodes: &[parts::Part<'_, 'a>],
+    nodes: &[parts::NodeAt<'_, 'a>],
     body: &Body<'a>,
     default: Name<'a>,
 ) -> Result<Vec<Stmt>, AllocError>
@@ -289,7 +295,7 @@ fn stated_by<'a>(
 // What becomes of the occurrences behind those of a list.
 #[tactic(auto, using(crate::proofs::Parting::drop_end))]
 fn rewrites_behind<'b, 'a>(rewrites: &'b [Rewrite<'a>], pieces: &[Piece<'_>]) -> &'b [Rewrite<'a>]
-    ensures { result.now ≡ drop (names_in (map item_of pieces.now)) rewrites.now }
+    ensures { result.now ≡ drop (occurrence_count (map item_of pieces.now)) rewrites.now }
 {
     let many = count(pieces);
     if many < rewrites.len() {
@@ -302,7 +308,7 @@ fn rewrites_behind<'b, 'a>(rewrites: &'b [Rewrite<'a>], pieces: &[Piece<'_>]) ->
 // How many occurrences stand in a list.
 #[tactic(auto, using(crate::proofs::Parting::filter_mapped))]
 fn count(pieces: &[Piece<'_>]) -> usize
-    ensures { result ≡ names_in (map item_of pieces.now) }
+    ensures { result ≡ occurrence_count (map item_of pieces.now) }
 {
     count_names(pieces)
 }
@@ -337,7 +343,7 @@ fn add_own(stmts: &mut Vec<Stmt>, stmt: Stmt) -> Result<(), AllocError>
 /// Adds an item.
 pub(crate) fn add_item(items: &mut Module, item: ModuleItem) -> Result<(), AllocError>
     ensures { OnOk result
-        (items_of items.new ≡ items_of items.old ++ module_item_items 0 item ∷ []) }
+        (module_item_lists items.new ≡ module_item_lists items.old ++ module_item_items 0 item ∷ []) }
 {
     items.body.push(item)?;
     Ok(())
@@ -346,7 +352,7 @@ pub(crate) fn add_item(items: &mut Module, item: ModuleItem) -> Result<(), Alloc
 /// Adds a statement.
 pub(crate) fn add_stmt(items: &mut Module, stmt: Stmt) -> Result<(), AllocError>
     ensures { OnOk result
-        (items_of items.new ≡ items_of items.old ++ stmt_items 0 stmt ∷ []) }
+        (module_item_lists items.new ≡ module_item_lists items.old ++ stmt_items 0 stmt ∷ []) }
 {
     add_item(items, ModuleItem::Stmt(stmt))
 }
@@ -354,7 +360,7 @@ pub(crate) fn add_stmt(items: &mut Module, stmt: Stmt) -> Result<(), AllocError>
 // Adds statements.
 fn add_stmts(items: &mut Module, stmts: Vec<Stmt>) -> Result<(), AllocError>
     ensures { OnOk result
-        (items_of items.new ≡ items_of items.old ++ map (stmt_items 0) stmts.items) }
+        (module_item_lists items.new ≡ module_item_lists items.old ++ map (stmt_items 0) stmts.items) }
 {
     for stmt in stmts {
         add_stmt(items, stmt)?;

@@ -6,15 +6,15 @@ ghost use Rattle.bundle_tree_places.specs.Marks.{ident_of};
 ghost use Rattle.bundle_merge_injected.specs.Listed as listed;
 ghost use Rattle.bundle_merge_injected.specs.Listed.{pair_of};
 ghost use Rattle.bundle_merge_items.specs.Added as added;
-ghost use Rattle.bundle_merge_items.specs.Added.{items_of};
+ghost use Rattle.bundle_merge_items.specs.Added.{module_item_lists};
 
 use crate::module::{add_item, add_stmt};
 use bundle_link_tables::Taken;
-use bundle_link_targets::{External, Loaded, Target};
+use bundle_link_targets::{External, Loaded, TargetRef};
 use bundle_merge_injected::{
     HelperNames, Pair, helper, import_bare, import_names, import_whole, load_statement,
 };
-use bundle_merge_names::{Label, Names};
+use bundle_merge_names::{BundleNames, Label};
 use bundle_tree_ast::Module;
 use bundle_tree_places::Name;
 use std::alloc::{AllocError, Global};
@@ -23,12 +23,12 @@ use std::alloc::{AllocError, Global};
 #[tactic(auto, using(crate::proofs::Adding::adding))]
 pub(crate) fn add_external<'a>(
     alloc: Global,
-    names: &Names<'a>,
+    names: &BundleNames<'a>,
     external: &External<'a>,
     items: &mut Module,
 ) -> Result<(), AllocError>
-    ensures { OnOk result (items_of items.new
-        ≡ items_of items.old ++ added.imports_of names.now external.now) }
+    ensures { OnOk result (module_item_lists items.new
+        ≡ module_item_lists items.old ++ added.import_declarations_of names.now external.now) }
 {
     add_named_import(alloc, names, external, items)?;
     add_other_import(alloc, names, external, items)
@@ -37,12 +37,12 @@ pub(crate) fn add_external<'a>(
 // Adds the import of the names of an external that are meant, where there are some.
 fn add_named_import<'a>(
     alloc: Global,
-    names: &Names<'a>,
+    names: &BundleNames<'a>,
     external: &External<'a>,
     items: &mut Module,
 ) -> Result<(), AllocError>
-    ensures { OnOk result (items_of items.new
-        ≡ items_of items.old ++ added.name_imports names.now external.now.specifier external.now.names.items) }
+    ensures { OnOk result (module_item_lists items.new
+        ≡ module_item_lists items.old ++ added.name_imports names.now external.now.specifier external.now.names.items) }
 {
     if external.names.is_empty() {
         return Ok(());
@@ -54,17 +54,17 @@ fn add_named_import<'a>(
 // Adds the import of the whole of an external, or of nothing where no name of it is taken.
 fn add_other_import<'a>(
     alloc: Global,
-    names: &Names<'a>,
+    names: &BundleNames<'a>,
     external: &External<'a>,
     items: &mut Module,
 ) -> Result<(), AllocError>
-    ensures { OnOk result (items_of items.new ≡ items_of items.old
+    ensures { OnOk result (module_item_lists items.new ≡ module_item_lists items.old
         ++ added.other_imports names.now external.now.specifier external.now.whole external.now.names.items) }
 {
     let specifier = external.specifier;
     if external.whole {
         let taken = Taken::Whole;
-        let name = names.target(Target::External { specifier, taken });
+        let name = names.target(TargetRef::External { specifier, taken });
         add_item(items, import_whole(alloc, specifier, name)?)
     } else if external.names.is_empty() {
         add_item(items, import_bare(alloc, specifier)?)
@@ -77,7 +77,7 @@ fn add_other_import<'a>(
 #[tactic(auto, using(crate::proofs::Adding::adding))]
 fn external_pairs<'a>(
     alloc: Global,
-    names: &Names<'a>,
+    names: &BundleNames<'a>,
     external: &External<'a>,
 ) -> Result<Vec<Pair<'a>>, AllocError>
     ensures { IfOk result (λ pairs. map pair_of pairs.items
@@ -87,7 +87,7 @@ fn external_pairs<'a>(
     for name in &external.names {
         let taken = Taken::Named(*name);
         let specifier = external.specifier;
-        let local = names.target(Target::External { specifier, taken });
+        let local = names.target(TargetRef::External { specifier, taken });
         pairs.push(Pair { name: *name, local })?;
     }
     Ok(pairs)
@@ -96,16 +96,16 @@ fn external_pairs<'a>(
 /// Adds the helper that load functions are made by.
 pub(crate) fn add_helper(
     alloc: Global,
-    names: &Names<'_>,
+    names: &BundleNames<'_>,
     items: &mut Module,
 ) -> Result<(), AllocError>
     ensures { OnOk result
-        (items_of items.new ≡ items_of items.old ++ added.helper_of names.now ∷ []) }
+        (module_item_lists items.new ≡ module_item_lists items.old ++ added.helper_of names.now ∷ []) }
 {
     let helper_names = HelperNames {
         helper: names.of(Label::Helper),
         func: names.of(Label::HelperParameter),
-        module: names.of(Label::HelperVariable),
+        module_object: names.of(Label::HelperVariable),
     };
     add_stmt(items, helper(alloc, helper_names)?)
 }
@@ -113,34 +113,34 @@ pub(crate) fn add_helper(
 /// Adds the statement by which a module loads a CommonJS module.
 pub(crate) fn add_load<'a>(
     alloc: Global,
-    names: &Names<'a>,
+    names: &BundleNames<'a>,
     taker: usize,
     loaded: &Loaded<'a>,
     items: &mut Module,
 ) -> Result<(), AllocError>
     ensures { OnOk result
-        (items_of items.new ≡ items_of items.old ++ added.load_of names.now taker loaded.now ∷ []) }
+        (module_item_lists items.new ≡ module_item_lists items.old ++ added.load_item_of names.now taker loaded.now ∷ []) }
 {
-    let module = loaded.module;
-    let load = names.of(Label::Load { module });
+    let which = loaded.which;
+    let load = names.of(Label::Load { which });
     let whole = loaded_whole(names, taker, loaded);
     let pairs = loaded_pairs(alloc, names, taker, loaded)?;
     add_stmt(items, load_statement(alloc, load, whole, &pairs)?)
 }
 
 // What stands for the whole of a CommonJS module, where it is taken.
-fn loaded_whole<'a>(names: &Names<'a>, taker: usize, loaded: &Loaded<'a>) -> Option<Name<'a>>
+fn loaded_whole<'a>(names: &BundleNames<'a>, taker: usize, loaded: &Loaded<'a>) -> Option<Name<'a>>
     ensures { option_map ident_of result
-        ≡ added.loaded_whole names.now taker loaded.now.module loaded.now.whole }
+        ≡ added.loaded_whole names.now taker loaded.now.which loaded.now.whole }
 {
     if !loaded.whole {
         return None;
     }
-    let module = loaded.module;
+    let which = loaded.which;
     let taken = Taken::Whole;
-    Some(names.target(Target::CommonJs {
+    Some(names.target(TargetRef::CommonJs {
         taker,
-        module,
+        which,
         taken,
     }))
 }
@@ -149,20 +149,20 @@ fn loaded_whole<'a>(names: &Names<'a>, taker: usize, loaded: &Loaded<'a>) -> Opt
 #[tactic(auto, using(crate::proofs::Adding::adding))]
 fn loaded_pairs<'a>(
     alloc: Global,
-    names: &Names<'a>,
+    names: &BundleNames<'a>,
     taker: usize,
     loaded: &Loaded<'a>,
 ) -> Result<Vec<Pair<'a>>, AllocError>
     ensures { IfOk result (λ pairs.
         map pair_of pairs.items ≡ added.loaded_pairs names.now taker loaded.now) }
 {
-    let module = loaded.module;
+    let which = loaded.which;
     let mut pairs = Vec::new(alloc);
     for name in &loaded.names {
         let taken = Taken::Named(*name);
-        let local = names.target(Target::CommonJs {
+        let local = names.target(TargetRef::CommonJs {
             taker,
-            module,
+            which,
             taken,
         });
         pairs.push(Pair { name: *name, local })?;

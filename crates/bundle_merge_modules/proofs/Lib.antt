@@ -1,10 +1,8 @@
+mod AnswerLemmas
+mod PourLemmas
 mod PlacedLemmas
-mod SortLemmas
+mod InlinedLemmas
 mod TreeLemmas
 mod AliasLemmas
 mod EndLemmas
-mod InlineLemmas
-mod InlinedLemmas
 mod PairLemmas
-mod PigeonLemmas
-mod WalkLemmas

@@ -11,7 +11,7 @@ use Rattle.std.proofs.lemmas.Option.{slice_get-get_or}
 use Rattle.std.proofs.lemmas.Map.Keys.{IsDistinct-from_apart}
 use Rattle.std.proofs.lemmas.Map.Steps.{le-length_from_below, length-le_from_distinct_below}
 use Rattle.bundle_tree_ast.specs.declared.module.ModuleItem.{ModuleItem}
-use Rattle.bundle_tree_piece.specs.Item.{Item}
+use Rattle.bundle_syntax.specs.Item.{Item}
 use Rattle.bundle_tree_listed.specs.Tree.{module_item_items}
 use Rattle.bundle_order_sort.specs.Arranged.{IsArrangement}
 use Rattle.bundle_order_graph.specs.Modules.{Modules}
@@ -19,7 +19,7 @@ use Rattle.bundle_order_graph.proofs.NodeLemmas.{Contains-place, found, place-co
 use Rattle.bundle_order_graph.proofs.OrderLemmas.{Contains-cons_cases, Contains-head, Contains-tail}
 use Rattle.bundle_order_sort.specs.declared.plan.Block.{Block}
 use Rattle.bundle_order_sort.specs.declared.plan.Plan.{Plan}
-use Rattle.bundle_order_sort.specs.Places.{left_of, numbers_from, places_of, places_where}
+use Rattle.bundle_order_sort.specs.Places.{left_of, module_numbers_from, places_of, places_where}
 use Rattle.bundle_order_sort.specs.Plan.{IsPlanned, IsPlanOf}
 use Rattle.bundle_order_sort.proofs.OnceLemmas.{AreOnce, IsOnce, apart_from_once, joined, nothing_in, once_from_apart}
 use Rattle.bundle_order_sort.proofs.WholeLemmas.{IsRearranged, IsWhole, all-in, all-once, members-once, whole-order}
@@ -28,16 +28,14 @@ use Rattle.bundle_rules.specs.Parts.{Owned, items_in}
 use Rattle.bundle_rules.specs.Sorting.{Numbered, IsSorted, SortsBlock, SortsBlocks, numbered_items}
 use Rattle.bundle_rules.specs.Sorting.SortsBlock.{lone, cycle}
 use Rattle.bundle_rules.specs.Sorting.SortsBlocks.{over, next}
-use Rattle.bundle_merge_modules.specs.Placed.{IsBlockPut, IsFitting, IsNewOrder, IsOrdered, IsPut, tree_at, trees_lent}
+use Rattle.bundle_merge_modules.specs.Placed.{IsAnyBlockPut, IsFitting, IsNewOrder, IsOrdered, IsBlockOrder, tree_at, trees_lent}
+use Rattle.bundle_order.proofs.SortedLemmas.{first_of, list_of}
 
 abbrev pub owner_of : Owned → ℕ
 owner_of pair = pair.0
 
 abbrev pub tree_of : Owned → List Item
 tree_of pair = pair.1
-
-abbrev first_of : Numbered → List Item
-first_of one = one.0
 
 -- ---- items at places
 -- the items whose module passes a test stand at the places of those
@@ -62,11 +60,11 @@ const-map f k [] = refl
 const-map f k (x ∷ xs) = ap (λ (l : List ℕ). k ∷ l) (const-map f k xs)
 
 -- as many numbers as items
-length-numbers : {X Y : Type 0} (f : X → List Y) (k : ℕ) (xs : List X) → length (numbers_from k (map f xs)) ≡ length (flat_map f xs)
+length-numbers : {X Y : Type 0} (f : X → List Y) (k : ℕ) (xs : List X) → length (module_numbers_from k (map f xs)) ≡ length (flat_map f xs)
 length-numbers f k [] = refl
 length-numbers {X} {Y} f k (x ∷ xs) =
-    length-append (map (λ (y : Y). k) (f x)) (numbers_from (k + 1) (map f xs))
-    ∙ (ap (λ n. n + length (numbers_from (k + 1) (map f xs))) (length-map (f x) (λ (y : Y). k))
+    length-append (map (λ (y : Y). k) (f x)) (module_numbers_from (k + 1) (map f xs))
+    ∙ (ap (λ n. n + length (module_numbers_from (k + 1) (map f xs))) (length-map (f x) (λ (y : Y). k))
     ∙ (ap (λ n. length (f x) + n) (length-numbers f (k + 1) xs)
     ∙ sym (length-append (f x) (flat_map f xs))))
 
@@ -87,10 +85,10 @@ module _ (pairs : List Owned) where
       ∙ (ap (λ (l : List (List Item)). l ++ map (tree_at trees) (flat_map (places_of owners) members)) (items-of m)
       ∙ ap (λ (l : List (List Item)). items_in pairs m ++ l) (items-all members))
 
-  numbers-all : (k : ℕ) (members : List ℕ) → numbers_from k (map (places_of owners) members) ≡ owners_of k (map (items_in pairs) members)
+  numbers-all : (k : ℕ) (members : List ℕ) → module_numbers_from k (map (places_of owners) members) ≡ owners_of k (map (items_in pairs) members)
   numbers-all k [] = refl
   numbers-all k (m ∷ members) =
-      ap (λ (l : List ℕ). l ++ numbers_from (k + 1) (map (places_of owners) members))
+      ap (λ (l : List ℕ). l ++ module_numbers_from (k + 1) (map (places_of owners) members))
       (const-map (tree_at trees) k (places_of owners m) ∙ ap (map (λ (item : List Item). k)) (items-of m))
       ∙ ap (λ (l : List ℕ). map (λ (item : List Item). k) (items_in pairs m) ++ l) (numbers-all (k + 1) members)
 
@@ -112,13 +110,13 @@ module _ (pairs : List Owned) where
   all-fit g (members ∷ blocks) (block ∷ plans) z zero d l = fits g members block z.0
   all-fit g (members ∷ blocks) (block ∷ plans) z (suc k) d l = all-fit g blocks plans z.1 k d (omega (arith, l))
 
-  sorts-block : (g : Modules) (members : List ℕ) (block : Block) (order : List ℕ) → IsPlanned g owners members block → IsBlockPut trees block order → SortsBlock g (items_in pairs) members (map (tree_at trees) order)
+  sorts-block : (g : Modules) (members : List ℕ) (block : Block) (order : List ℕ) → IsPlanned g owners members block → IsAnyBlockPut trees block order → SortsBlock g (items_in pairs) members (map (tree_at trees) order)
   sorts-block g members block order z put = by block.is_cycle refl
     where
       joins : map (tree_at trees) block.places.items ≡ flat_map (λ items. items) (map (items_in pairs) members)
       joins = ap (map (tree_at trees)) z.places ∙ items-all members
 
-      is : IsPut trees block (map (items_in pairs) members) order
+      is : IsBlockOrder trees block (map (items_in pairs) members) order
       is = put (map (items_in pairs) members) joins (z.numbers ∙ numbers-all 0 members)
 
       by : (b : Bool) → block.is_cycle ≡ b → SortsBlock g (items_in pairs) members (map (tree_at trees) order)
@@ -132,7 +130,7 @@ module _ (pairs : List Owned) where
           subst (λ (ms : List ℕ). SortsBlock g (items_in pairs) ms (map (tree_at trees) order)) (sym l.1)
           (subst (λ (s : List (List Item)). SortsBlock g (items_in pairs) (l.0 ∷ []) s) (sym listed) (lone l.2))
 
-  sorts-blocks : (g : Modules) (blocks : List (List ℕ)) (plans : List Block) (orders : List (List ℕ)) → AllZip (IsPlanned g owners) blocks plans → AllZip (IsBlockPut trees) plans orders → SortsBlocks g (items_in pairs) blocks (map (tree_at trees) (joined orders))
+  sorts-blocks : (g : Modules) (blocks : List (List ℕ)) (plans : List Block) (orders : List (List ℕ)) → AllZip (IsPlanned g owners) blocks plans → AllZip (IsAnyBlockPut trees) plans orders → SortsBlocks g (items_in pairs) blocks (map (tree_at trees) (joined orders))
   sorts-blocks g [] [] [] z y = over
   sorts-blocks g [] [] (order ∷ orders) z y = absurd y
   sorts-blocks g [] (block ∷ plans) orders z y = absurd z
@@ -194,8 +192,6 @@ module _ (places numbers : List ℕ) (whole : IsArrangement numbers (length plac
       ]
 
 -- ---- items that are lent
-abbrev list_of : ModuleItem → List Item
-list_of item = module_item_items 0 item
 
 at-lent : (items : List (Bor ModuleItem)) (n : ℕ) → n < length items → (x : ModuleItem) × (tree_at (trees_lent items) n ≡ list_of x)
 at-lent [] n l = absurd (omega (arith, l))
@@ -223,7 +219,7 @@ zip-read numbered items (n ∷ numbers) [] z within = absurd z
 zip-read numbered items (n ∷ numbers) (at ∷ order) z within =
     (z.0 ∙ slice_get-get_or items at [] (within at (Contains-head order at)), zip-read numbered items numbers order z.1 (λ k c. within k (Contains-tail order at k c)))
 
-pub put-ordered : (trees : List (List Item)) (block : Block) (modules : List (List (List Item))) (xs : List ModuleItem) (numbers order : List ℕ) → map (module_item_items 0) xs ≡ map (tree_at trees) block.places.items → IsOrdered block.is_cycle modules (map (module_item_items 0) xs) numbers → (All (λ n. n < length block.places.items) numbers → order ≡ map (λ n. get_or block.places.items n 0) numbers) → IsPut trees block modules order
+pub put-ordered : (trees : List (List Item)) (block : Block) (modules : List (List (List Item))) (xs : List ModuleItem) (numbers order : List ℕ) → map (module_item_items 0) xs ≡ map (tree_at trees) block.places.items → IsOrdered block.is_cycle modules (map (module_item_items 0) xs) numbers → (All (λ n. n < length block.places.items) numbers → order ≡ map (λ n. get_or block.places.items n 0) numbers) → IsBlockOrder trees block modules order
 put-ordered trees block modules xs numbers order drawn' ordered pick = record {
   numbers = numbers;
   whole = whole;
@@ -266,7 +262,7 @@ zip-push R (a ∷ xs) (b ∷ ys) x y z r = (z.0, zip-push R xs ys x y z.1 r)
 
 -- ---- all together
 module _ (g : Modules) (entry : ℕ) (pairs : List Owned) where
-  rearranged : (blocks : List (List ℕ)) (plans : List Block) (orders : List (List ℕ)) → AreOnce blocks → AllZip (IsPlanned g (map owner_of pairs)) blocks plans → AllZip (IsBlockPut (map tree_of pairs)) plans orders → AllZip (IsRearranged (map owner_of pairs)) blocks orders
+  rearranged : (blocks : List (List ℕ)) (plans : List Block) (orders : List (List ℕ)) → AreOnce blocks → AllZip (IsPlanned g (map owner_of pairs)) blocks plans → AllZip (IsAnyBlockPut (map tree_of pairs)) plans orders → AllZip (IsRearranged (map owner_of pairs)) blocks orders
   rearranged [] [] [] once z y = tt
   rearranged [] [] (order ∷ orders) once z y = absurd y
   rearranged [] (block ∷ plans) orders once z y = absurd z
@@ -317,7 +313,7 @@ module _ (g : Modules) (entry : ℕ) (pairs : List Owned) where
     once = apart_from_once order w.once;
   }
 
-  pub new-order : (plan : Plan) → IsPlanOf g entry (map owner_of pairs) plan → (orders : List (List ℕ)) → AllZip (IsBlockPut (map tree_of pairs)) plan.blocks.items orders → (order : List ℕ) → order ≡ flat_map (λ list. list) orders ++ plan.left.items → IsNewOrder g entry pairs order
+  pub new-order : (plan : Plan) → IsPlanOf g entry (map owner_of pairs) plan → (orders : List (List ℕ)) → AllZip (IsAnyBlockPut (map tree_of pairs)) plan.blocks.items orders → (order : List ℕ) → order ≡ flat_map (λ list. list) orders ++ plan.left.items → IsNewOrder g entry pairs order
   new-order plan p orders y order is =
       let owners = map owner_of pairs in
       let here = map tree_of pairs in

@@ -1,3 +1,8 @@
+pub mod Groups
+pub mod Calls
+pub mod Parts
+pub mod Refused
+pub mod Rest
 pub mod Held
 pub mod Placed
 pub mod Sorted

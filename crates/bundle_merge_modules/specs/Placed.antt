@@ -3,7 +3,7 @@ use Rattle.std.specs.Prelude.{◌≡◌, ℕ, ◌<◌, ◌↔◌, Bool, true, fa
 use Rattle.std.specs.List.{flat_map}
 use Rattle.std.specs.Borrow.{Bor}
 use Rattle.bundle_tree_ast.specs.declared.module.ModuleItem.{ModuleItem}
-use Rattle.bundle_tree_piece.specs.Item.{Item}
+use Rattle.bundle_syntax.specs.Item.{Item}
 use Rattle.bundle_tree_listed.specs.Tree.{module_item_items}
 use Rattle.bundle_order_sort.specs.Arranged.{IsArrangement}
 use Rattle.bundle_order_sort.specs.declared.plan.Block.{Block}
@@ -33,7 +33,7 @@ pub record IsOrdered (is_cycle : Bool) (modules : List (List (List Item))) (tree
   pub cycle : is_cycle ≡ true → IsSortedBy modules trees order
 
 -- the places of a block of these modules, in the order in which its items are to stand
-pub record IsPut (trees : List (List Item)) (block : Block) (modules : List (List (List Item))) (order : List ℕ) : Type 0 where
+pub record IsBlockOrder (trees : List (List Item)) (block : Block) (modules : List (List (List Item))) (order : List ℕ) : Type 0 where
   pub numbers : List ℕ
   pub whole : IsArrangement numbers (length block.places.items)
   pub picked : order ≡ map (λ n. slice_index block.places.items n) numbers
@@ -42,9 +42,9 @@ pub record IsPut (trees : List (List Item)) (block : Block) (modules : List (Lis
   pub cycle : block.is_cycle ≡ true → IsSorted modules (map (tree_at trees) order)
 
 -- the same, whatever modules its items are of
-abbrev pub IsBlockPut : List (List Item) → Block → List ℕ → Type 0
-IsBlockPut trees block order =
-    (modules : List (List (List Item))) → map (tree_at trees) block.places.items ≡ flat_map (λ items. items) modules → block.numbers.items ≡ owners_of 0 modules → IsPut trees block modules order
+abbrev pub IsAnyBlockPut : List (List Item) → Block → List ℕ → Type 0
+IsAnyBlockPut trees block order =
+    (modules : List (List (List Item))) → map (tree_at trees) block.places.items ≡ flat_map (λ items. items) modules → block.numbers.items ≡ owners_of 0 modules → IsBlockOrder trees block modules order
 
 -- the places of all items, sorted from an entry on, with those behind that it does not reach
 pub record IsNewOrder (g : Modules) (entry : ℕ) (pairs : List Owned) (order : List ℕ) : Type 0 where

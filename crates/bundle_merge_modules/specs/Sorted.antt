@@ -1,6 +1,6 @@
 -- What the sort of all items makes of them.
 use Rattle.std.specs.Prelude.{◌≡◌, ℕ, ◌↔◌, Bool, true, not, List, ◌++◌, Contains, map, filter}
-use Rattle.bundle_tree_piece.specs.Item.{Item}
+use Rattle.bundle_syntax.specs.Item.{Item}
 use Rattle.bundle_order_graph.specs.Modules.{Modules, Requests}
 use Rattle.bundle_order_graph.specs.Walks.{Reaches}
 use Rattle.bundle_rules.specs.Parts.{Owned, Parts, in_order, parts_of}

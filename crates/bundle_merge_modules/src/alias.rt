@@ -2,12 +2,11 @@
 
 ghost use Rattle.std.specs.Prelude.{◌≡◌, map, option_map, slice_get};
 ghost use Rattle.bundle_tree_places.specs.Marks.{ident_of};
-ghost use Rattle.bundle_tree_piece.specs.Item.{head_of, item_of};
+ghost use Rattle.bundle_syntax.specs.Item.{head_of, item_of};
 ghost use Rattle.bundle_merge_modules.specs.Aliased as aliased;
-ghost use Rattle.bundle_merge_modules.specs.Aliased.{alias_in, is_binding, is_const_head, is_declarator_head, is_pattern_head, is_reference, named};
+ghost use Rattle.bundle_merge_modules.specs.Aliased.{alias_in, is_binding_role, is_const_head, is_declarator_head, is_pattern_head, is_reference, named_in_field};
 
-use bundle_tree_leaf::VarDeclKind;
-use bundle_tree_piece::{Node, Piece, Role};
+use bundle_syntax::{Node, Piece, Role, VarDeclKind};
 use bundle_tree_places::Name;
 
 /// What the item with this list makes an alias, and of what, if it makes one.
@@ -37,7 +36,7 @@ fn is_framed<'a>(list: &[Piece<'a>]) -> bool
 }
 
 fn is_const_at<'a>(list: &[Piece<'a>], at: usize) -> bool
-    ensures { result ≡ aliased.begins is_const_head 0 (slice_get (map item_of list.now) at) }
+    ensures { result ≡ aliased.begins_in_field is_const_head 0 (slice_get (map item_of list.now) at) }
 {
     match list.get(at) {
         Some(Piece::Open { field, node }) => *field == 0 && is_const(*node),
@@ -56,7 +55,7 @@ fn is_const<'a>(node: Node<'a>) -> bool
 }
 
 fn is_declarator_at<'a>(list: &[Piece<'a>], at: usize) -> bool
-    ensures { result ≡ aliased.begins is_declarator_head 1 (slice_get (map item_of list.now) at) }
+    ensures { result ≡ aliased.begins_in_field is_declarator_head 1 (slice_get (map item_of list.now) at) }
 {
     match list.get(at) {
         Some(Piece::Open { field, node }) => *field == 1 && is_declarator(*node),
@@ -74,7 +73,7 @@ fn is_declarator<'a>(node: Node<'a>) -> bool
 }
 
 fn is_pattern_at<'a>(list: &[Piece<'a>], at: usize) -> bool
-    ensures { result ≡ aliased.begins is_pattern_head 0 (slice_get (map item_of list.now) at) }
+    ensures { result ≡ aliased.begins_in_field is_pattern_head 0 (slice_get (map item_of list.now) at) }
 {
     match list.get(at) {
         Some(Piece::Open { field, node }) => *field == 0 && is_pattern(*node),
@@ -92,7 +91,7 @@ fn is_pattern<'a>(node: Node<'a>) -> bool
 }
 
 fn is_end<'a>(list: &[Piece<'a>], at: usize) -> bool
-    ensures { result ≡ aliased.is_end (slice_get (map item_of list.now) at) }
+    ensures { result ≡ aliased.is_node_end (slice_get (map item_of list.now) at) }
 {
     match list.get(at) {
         Some(Piece::Close) => true,
@@ -103,7 +102,7 @@ fn is_end<'a>(list: &[Piece<'a>], at: usize) -> bool
 // The identifier at a place, if it binds in the first field.
 fn bound_at<'a>(list: &[Piece<'a>], at: usize) -> Option<Name<'a>>
     ensures { option_map ident_of result
-        ≡ named is_binding 0 (slice_get (map item_of list.now) at) }
+        ≡ named_in_field is_binding_role 0 (slice_get (map item_of list.now) at) }
 {
     match list.get(at) {
         Some(
@@ -121,7 +120,7 @@ fn bound_at<'a>(list: &[Piece<'a>], at: usize) -> Option<Name<'a>>
 // The identifier at a place, if it refers in the second field.
 fn referred_at<'a>(list: &[Piece<'a>], at: usize) -> Option<Name<'a>>
     ensures { option_map ident_of result
-        ≡ named is_reference 1 (slice_get (map item_of list.now) at) }
+        ≡ named_in_field is_reference 1 (slice_get (map item_of list.now) at) }
 {
     match list.get(at) {
         Some(

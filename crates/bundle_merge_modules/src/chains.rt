@@ -1,7 +1,7 @@
 //! Chains of numbers: each number leads to another or to none, and where the chain from each of them ends.
 
 ghost use Rattle.std.specs.Prelude.{◌≡◌, ◌+◌, ◌<◌, ◌≤◌, ℕ, IfNone, IfOk, IfSome, IsTrue, IsFalse, length, map, slice_get, slice_index};
-ghost use Rattle.bundle_merge_modules.specs.Chains.{AreEnds, AreFar, AreJumps, AreLast, AreWithin, HasOpen, HasRing, LeadsWithin, is_last_at, step_of};
+ghost use Rattle.bundle_merge_modules.specs.Chains.{AreEnds, AreFar, AreJumps, AreLast, AreNumbersBelow, HasOpen, HasRing, LeadsWithin, is_last_at, chain_step};
 
 use std::alloc::{AllocError, Global};
 
@@ -50,7 +50,7 @@ fn first_jumps(alloc: Global, next: &[Option<usize>]) -> Result<Vec<usize>, Allo
 // Where a number gets in one step; where it leads to none, it stays.
 fn step(next: &[Option<usize>], i: usize) -> usize
     requires { i < length next.now }
-    ensures { result ≡ step_of next.now i }
+    ensures { result ≡ chain_step next.now i }
 {
     match next[i] {
         Some(other) => other,
@@ -60,7 +60,7 @@ fn step(next: &[Option<usize>], i: usize) -> usize
 
 // Where each number gets in twice as many steps.
 fn doubled(alloc: Global, jumps: &[usize]) -> Result<Vec<usize>, AllocError>
-    requires { AreWithin jumps.now (length jumps.now) }
+    requires { AreNumbersBelow jumps.now (length jumps.now) }
     ensures { IfOk result
         (λ twice. twice.items ≡ map (λ j. slice_index jumps.now j) jumps.now) }
 {
@@ -73,7 +73,7 @@ fn doubled(alloc: Global, jumps: &[usize]) -> Result<Vec<usize>, AllocError>
 
 // Whether each of these numbers leads to none.
 fn are_last(next: &[Option<usize>], ends: &[usize]) -> bool
-    requires { AreWithin ends.now (length next.now) }
+    requires { AreNumbersBelow ends.now (length next.now) }
     ensures all { IsTrue result → AreLast next.now ends.now }
     ensures leads { IsFalse result → HasOpen next.now ends.now }
 {

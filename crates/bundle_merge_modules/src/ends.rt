@@ -4,8 +4,8 @@ ghost use Rattle.std.specs.Prelude.{◌≡◌, IfNone, IfOk, IfSome, length, map
 ghost use Rattle.std.specs.BTreeMap.{get};
 ghost use Rattle.bundle_rules.specs.Aliases.{HasCycle};
 ghost use Rattle.bundle_tree.specs.IdName.{name_cmp};
-ghost use Rattle.bundle_merge_modules.specs.Chains.{AreWithin};
-ghost use Rattle.bundle_merge_modules.specs.Pairs.{AreNumbers, AreOnce, AreSteps, IsPair, LeadsToEnds, next_by};
+ghost use Rattle.bundle_merge_modules.specs.Chains.{AreNumbersBelow};
+ghost use Rattle.bundle_merge_modules.specs.Pairs.{AreAliasNumbers, AreOnceAliased, AreRenamingSteps, IsPair, LeadsToEnds, next_by};
 
 use crate::chains::chain_ends;
 use bundle_marks::Renaming;
@@ -22,7 +22,7 @@ pub(crate) fn renaming_to_ends(
     ensures ends { IfOk result
         (λ found. IfSome found (λ renaming. LeadsToEnds (IsPair pairs.now) renaming)) }
     ensures none { IfOk result (λ found. IfSome found
-        (λ renaming. AreOnce pairs.now → HasCycle (IsPair pairs.now) → ⊥)) }
+        (λ renaming. AreOnceAliased pairs.now → HasCycle (IsPair pairs.now) → ⊥)) }
     ensures cycle { IfOk result (λ found. IfNone found (HasCycle (IsPair pairs.now))) }
 {
     let numbers = numbers_of(alloc, pairs)?;
@@ -35,7 +35,7 @@ pub(crate) fn renaming_to_ends(
 
 // The number of a pair by what is an alias there.
 fn numbers_of(alloc: Global, pairs: &[(Id, Id)]) -> Result<BTreeMap<Id, usize>, AllocError>
-    ensures { IfOk result (λ numbers. AreNumbers pairs.now (length pairs.now) numbers) }
+    ensures { IfOk result (λ numbers. AreAliasNumbers pairs.now (length pairs.now) numbers) }
 {
     let mut numbers = BTreeMap::new(alloc);
     for (number, pair) in pairs.iter().enumerate() {
@@ -68,8 +68,8 @@ fn number_in(numbers: &BTreeMap<Id, usize>, id: &Id) -> Option<usize>
 // The renaming of what is an alias in each pair to what the pair at its end stands for.
 fn renaming_by(alloc: Global, pairs: &[(Id, Id)], ends: &[usize]) -> Result<Renaming, AllocError>
     requires len { length ends.now ≡ length pairs.now }
-    requires within { AreWithin ends.now (length pairs.now) }
-    ensures { IfOk result (λ renaming. AreSteps pairs.now ends.now (length pairs.now) renaming) }
+    requires within { AreNumbersBelow ends.now (length pairs.now) }
+    ensures { IfOk result (λ renaming. AreRenamingSteps pairs.now ends.now (length pairs.now) renaming) }
 {
     let mut renaming = Renaming::empty(alloc);
     for (number, pair) in pairs.iter().enumerate() {

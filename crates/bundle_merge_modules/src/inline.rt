@@ -3,13 +3,13 @@
 ghost use Rattle.std.specs.Prelude.{◌≡◌, ◌++◌, IfErr, IfOk, OnErr, OnOk, is_some, map, option_map};
 ghost use Rattle.bundle_merge_modules.specs.Held.{MapsSome};
 ghost use Rattle.bundle_tree_places.specs.Marks.{ident_of};
-ghost use Rattle.bundle_tree_piece.specs.Item.{item_of};
+ghost use Rattle.bundle_syntax.specs.Item.{item_of};
 ghost use Rattle.bundle_tree_listed.specs.Tree.{module_item_items};
 ghost use Rattle.bundle_marks.specs.Idents.{ident_named, pair_named};
 ghost use Rattle.bundle_rules.specs.Aliases.{HasCycle, Inlines, IsAlias};
 ghost use Rattle.bundle_rules.specs.Parts.{in_order};
 ghost use Rattle.bundle_merge_modules.specs.Aliased.{alias_in};
-ghost use Rattle.bundle_merge_modules.specs.Made.{AreAliasesOnce, ArePairsOf, IsMade, alias_list};
+ghost use Rattle.bundle_merge_modules.specs.Made.{AreAliasesOnce, ArePairsOf, IsItemInlined, alias_list};
 ghost use Rattle.bundle_merge_modules.specs.declared.inline.InlineError.TheVariants.{Cycle, Memory};
 
 use crate::Modules;
@@ -17,11 +17,11 @@ use crate::alias::alias_of;
 use crate::ends::renaming_to_ends;
 use bundle_marks::Renaming;
 use bundle_scope::scope::rename_item;
+use bundle_syntax::Piece;
 use bundle_tree::Id;
 use bundle_tree_ast::ModuleItem;
 use bundle_tree_list::pieces;
 use bundle_tree_names::{ModuleId, SyntaxContext};
-use bundle_tree_piece::Piece;
 use bundle_tree_places::Name;
 use std::alloc::{AllocError, Global};
 use std::slice;
@@ -102,7 +102,7 @@ fn list_of<'a>(alloc: Global, item: &'a ModuleItem) -> Result<Vec<Piece<'a>>, Al
 // Renames each item that makes no alias, and takes out the others.
 fn replace(alloc: Global, modules: &mut Modules, renaming: &Renaming) -> Result<(), InlineError>
     ensures made { OnOk result
-        (MapsSome (λ m item made. IsMade renaming.now item made) modules.old modules.new) }
+        (MapsSome (λ m item made. IsItemInlined renaming.now item made) modules.old modules.new) }
     ensures memory { IfErr result (λ refusal. refusal ≡ Memory) }
     ensures refused { OnErr result (modules.new ≡ modules.old) }
 {
@@ -120,7 +120,7 @@ fn made_of(
     item: &ModuleItem,
     renaming: &Renaming,
 ) -> Result<Option<ModuleItem>, AllocError>
-    ensures { IfOk result (λ made. IsMade renaming.now
+    ensures { IfOk result (λ made. IsItemInlined renaming.now
         (module_item_items 0 item.now) (option_map (module_item_items 0) made)) }
 {
     let makes = makes_alias(alloc, item)?;

@@ -1,12 +1,12 @@
 //! What a linker holds while it makes one module of several.
 
 ghost use Rattle.std.specs.Prelude.{◌≡◌, ◌⊎◌, alloc_error, map, IfErr, IfOk, OnOk, OnErr};
-ghost use Rattle.bundle_merge_modules.specs.Held.{Answers, Asks, MapsSome, Picks, RefusesItem, RefusesList, RefusesPick, Replies, lists_in_order, trees_of};
+ghost use Rattle.bundle_merge_modules.specs.Held.{AnswersItems, AsksItem, MapsSome, PicksItem, RefusesItem, RefusesList, RefusesPick, Replies, lists_in_order, trees_of};
 ghost use Rattle.bundle_tree_listed.specs.Tree.{module_item_items, module_items};
 ghost use Rattle.bundle_rules.specs.Parts.{MapsItems, MapsLists, Retains, body_of, in_order, joined, no_parts, parts_of, with_all_appended, with_appended, with_prepended};
 
-pub use bundle_merge_parts::Iter;
-use bundle_merge_parts::Parts;
+use crate::Parts;
+pub use crate::iter::Iter;
 use bundle_tree_ast::{Module, ModuleItem};
 use bundle_tree_names::{Error, ModuleId};
 use std::alloc::{AllocError, Global};
@@ -39,11 +39,11 @@ impl Modules {
     }
 
     /// The items of one module, as its body.
-    pub fn from(alloc: Global, id: ModuleId, module: Module) -> Result<Modules, AllocError>
+    pub fn from(alloc: Global, id: ModuleId, tree: Module) -> Result<Modules, AllocError>
         ensures { IfOk result (λ modules.
-            modules ≡ parts_of id (map (module_item_items 0) «module».body.items)) }
+            modules ≡ parts_of id (map (module_item_items 0) tree.body.items)) }
     {
-        let parts = Parts::from(alloc, id, module.into_body())?;
+        let parts = Parts::from(alloc, id, tree.into_body())?;
         Ok(Modules { parts })
     }
 
@@ -76,7 +76,7 @@ impl Modules {
     where
         F: Fn(ModuleId, &[ModuleItem]) -> Result<Vec<ModuleItem>, Error>,
         requires { F.IsAlwaysCallable f.now }
-        ensures answered { OnOk result (MapsLists (Answers (F.post f.now)) self.old self.new) }
+        ensures answered { OnOk result (MapsLists (AnswersItems (F.post f.now)) self.old self.new) }
         ensures refused { OnErr result (self.new ≡ self.old) }
         ensures why { IfErr result (λ refusal. (refusal ≡ Error.OutOfMemory)
             ⊎ RefusesList (F.post f.now) refusal (lists_in_order self.old)) }
@@ -103,7 +103,7 @@ impl Modules {
     where
         F: Fn(ModuleId, &ModuleItem) -> Result<Option<ModuleItem>, E>,
         requires { F.IsAlwaysCallable f.now }
-        ensures answered { OnOk result (MapsSome (Picks (F.post f.now)) self.old self.new) }
+        ensures answered { OnOk result (MapsSome (PicksItem (F.post f.now)) self.old self.new) }
         ensures refused { OnErr result (self.new ≡ self.old) }
         ensures why { IfErr result (λ refusal. E.from_gives alloc_error refusal
             ⊎ RefusesPick (F.post f.now) refusal (in_order self.old)) }
@@ -143,7 +143,7 @@ impl Modules {
     where
         F: Fn(ModuleId, &ModuleItem) -> bool,
         requires { F.IsAlwaysCallable f.now }
-        ensures { Retains (Asks (F.post f.now)) self.old self.new }
+        ensures { Retains (AsksItem (F.post f.now)) self.old self.new }
     {
         self.parts.retain_mut(f);
     }

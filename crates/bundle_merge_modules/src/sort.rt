@@ -3,25 +3,25 @@
 ghost use Rattle.std.specs.Prelude.{◌≡◌, ℕ, ◌<◌, ◌++◌, [], ◌∷◌, All, IfOk, IsPermutation, List, OnErr, OnOk, length, map, slice_index};
 ghost use Rattle.std.specs.List.{AllZip, flat_map};
 ghost use Rattle.bundle_tree_ast.specs.declared.module.ModuleItem.{ModuleItem};
-ghost use Rattle.bundle_merge_parts.specs.Parts.{in_order as in_order_of};
-ghost use Rattle.bundle_tree_piece.specs.Item.{Item, item_of};
+ghost use Rattle.bundle_merge_modules.specs.Parts.{all_in_order as in_order_of};
+ghost use Rattle.bundle_syntax.specs.Item.{Item, item_of};
 ghost use Rattle.bundle_tree_listed.specs.Tree.{module_item_items};
 ghost use Rattle.bundle_order.specs.Numbering.{owners_of};
 ghost use Rattle.bundle_rules.specs.Parts.{in_order};
 ghost use Rattle.bundle_rules.specs.Sorting.{IsSortedInto};
 ghost use Rattle.bundle_merge_modules.specs.Held.{trees_of};
-ghost use Rattle.bundle_merge_modules.specs.Placed.{IsBlockPut, IsFitting, IsNewOrder, IsOrdered, IsPut, tree_at, trees_lent};
+ghost use Rattle.bundle_merge_modules.specs.Placed.{IsAnyBlockPut, IsFitting, IsNewOrder, IsOrdered, IsBlockOrder, tree_at, trees_lent};
 ghost use Rattle.bundle_merge_modules.specs.Sorted.{AreReached, IsSortedWhole};
 
+use crate::Parts;
 use crate::modules::Modules;
-use bundle_merge_parts::Parts;
 use bundle_order::{own_places, sorted_places};
 use bundle_order_graph::graph::ModuleGraph;
 use bundle_order_sort::{Block, Plan, plan_of};
+use bundle_syntax::Piece;
 use bundle_tree_ast::ModuleItem;
 use bundle_tree_list::pieces;
 use bundle_tree_names::ModuleId;
-use bundle_tree_piece::Piece;
 use std::alloc::{AllocError, Global};
 use std::slice;
 
@@ -103,7 +103,7 @@ fn order_by<'a>(
     requires { All (IsFitting (length items.now)) plan.now.blocks.items }
     ensures { IfOk result (λ order.
         (orders : List (List ℕ))
-        × AllZip (IsBlockPut (trees_lent items.now)) plan.now.blocks.items orders
+        × AllZip (IsAnyBlockPut (trees_lent items.now)) plan.now.blocks.items orders
         × (order.items ≡ flat_map (λ list. list) orders ++ plan.now.left.items)) }
 {
     let mut order = Vec::new(alloc);
@@ -122,7 +122,7 @@ fn block_places<'a>(
     block: &Block,
 ) -> Result<Vec<usize>, AllocError>
     requires { IsFitting (length items.now) block.now }
-    ensures { IfOk result (λ order. IsBlockPut (trees_lent items.now) block.now order.items) }
+    ensures { IfOk result (λ order. IsAnyBlockPut (trees_lent items.now) block.now order.items) }
 {
     let lists = lists_at(alloc, items, &block.places)?;
     let order = order_in(alloc, &lists, block)?;

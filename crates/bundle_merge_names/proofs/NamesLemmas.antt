@@ -1,5 +1,5 @@
 -- What a bundle's names hold are contexts that tell apart what has one.
-use Rattle.std.proofs.Common.{◌≡◌, ◌≤◌, ◌<◌, ◌+◌, ◌-◌, inl, inr, ℕ, zero, suc, nat_lt, Bool, true, false, List, [], ◌∷◌, ◌++◌, Option, Some, None, unwrap_or, length, map, option_map, refl, ap, ap₂, sym, subst, ◌∙◌, arith, ltb-true, if◌then◌else◌}
+use Rattle.std.proofs.Common.{◌≡◌, ◌≤◌, ◌<◌, inl, inr, ℕ, zero, suc, Bool, true, false, List, [], ◌∷◌, ◌++◌, Option, Some, None, unwrap_or, length, map, option_map, refl, ap, ap₂, sym, subst, ◌∙◌, arith}
 use Rattle.std.specs.Prelude.{slice_get}
 use Rattle.std.specs.Borrow.{Bor}
 use Rattle.std.specs.declared.vec.Vec.{Vec}
@@ -7,9 +7,9 @@ use Rattle.std.specs.Global.{Global}
 use Rattle.std.proofs.lemmas.Option.{none-some, same_Some, slice_get_within}
 use Rattle.indexmap.specs.IndexMap.{get_by}
 use Rattle.std.proofs.lemmas.Bool.{true≢false}
-use Rattle.bundle_tree_leaf.specs.declared.kind.ExportMetadata.{ExportMetadata}
-use Rattle.bundle_tree_piece.specs.Item as h
-use Rattle.bundle_tree_piece.specs.Item.{Item, item_of}
+use Rattle.bundle_syntax.specs.declared.kind.ExportMetadata.{ExportMetadata}
+use Rattle.bundle_syntax.specs.Item as h
+use Rattle.bundle_syntax.specs.Item.{Item, item_of}
 use Rattle.bundle_rules.specs.Bundle.{AsModule, Cause, HoldsMeta, IsDue, properties_tree}
 use Rattle.bundle_rules.specs.Cleared.{cleared, cleared_item}
 use Rattle.bundle_rules.specs.Declarations.{BySymbol, Name}
@@ -28,29 +28,30 @@ use Rattle.bundle_link_tables.specs.declared.table.Taken.{Taken}
 use Rattle.bundle_link_tables.specs.declared.table.Taken.TheVariants as k
 use Rattle.bundle_link_tables.specs.TablesOf.{taken_of}
 use Rattle.bundle_link_index.specs.Says.{target_of}
-use Rattle.bundle_link_index.specs.declared.target.Target.{Target}
-use Rattle.bundle_link_index.specs.declared.target.Target.TheVariants as t
+use Rattle.bundle_link_index.specs.declared.target.TargetRef.{TargetRef}
+use Rattle.bundle_link_index.specs.declared.target.TargetRef.TheVariants as t
 use Rattle.bundle_link_targets.specs.Lists.{list_in}
 use Rattle.bundle_merge_names.specs.contracts.names.LabelPartialEq.TheImpl as label_impl
 use Rattle.bundle_merge_names.specs.declared.names.Label.{Label}
 use Rattle.bundle_merge_names.specs.declared.names.Label.TheVariants as n
-use Rattle.bundle_merge_names.specs.declared.names.Names.{Names}
+use Rattle.bundle_merge_names.specs.declared.names.BundleNames.{BundleNames}
 use Rattle.bundle_merge_names.specs.declared.part.Answered.{Answered}
-use Rattle.bundle_merge_names.specs.declared.part.BundleParts.{BundleParts}
-use Rattle.bundle_merge_names.specs.declared.part.Part.{Part}
-use Rattle.bundle_merge_names.specs.Added.{AddsNames}
-use Rattle.bundle_merge_names.specs.Bundle.{AreAnswers, AreBundleParts, AreNamesOf, IsAnswerOf, StandsWritten, answered_items, holder_symbol, its_inside, its_name, list_of_part}
-use Rattle.bundle_merge_whole.specs.made.Given.{Answer, Fresh, Written, stands_written, Contexts, Holder, TopOf, InsideOf, AnsweredOf, WrittenIn, NameOf, HelperParameter, HelperVariable, in_order, numbers_answered, numbers_in}
-use Rattle.bundle_merge_names.specs.Held.{AreHeld}
-use Rattle.bundle_merge_whole.specs.made.Alone.{AddsLabel, IsHolder, added, answered_of, defines, helps, holds_meta, holds_namespace, imports_name, imports_whole, inside_of, loads, parameter, top_of, variable, written_in}
+use Rattle.bundle_merge_names.specs.declared.part.BundleInput.{BundleInput}
+use Rattle.bundle_merge_names.specs.declared.part.BundleModule.{BundleModule}
+use Rattle.bundle_merge_names.specs.Added.{GivesNames}
+use Rattle.bundle_merge_names.specs.Bundle.{AreMetaAnswers, AreBundleParts, AreNamesOf, IsReadAnswer, StandsWritten, answered_items, holder_symbol, its_inside, its_name, list_of_part}
+use Rattle.bundle_merge_theory.specs.made.Given.{HookAnswer, Fresh, Written, stands_written, BundleContexts, Holder, TopOf, InsideOf, AnsweredOf, WrittenIn, NameOf, HelperParameter, HelperVariable, context_in_order, numbers_answered, numbers_in}
+use Rattle.bundle_merge_names.specs.Held.{AreLabelContexts}
+use Rattle.bundle_merge_theory.specs.made.Alone.{AddsLabel, IsHolder, added, answered_of, defines, helps, holds_meta, holds_namespace, imports_name, imports_whole, inside_of, loads, parameter, top_of, variable, written_in}
 use Rattle.bundle_merge_names.specs.Idents.{label_ident}
-use Rattle.bundle_merge_names.specs.Inside.{AreScopesNamed, HasContext, HoldsNothing, IsScoped, answer_of, contexts_at, scopes_at, scopes_by}
+use Rattle.bundle_merge_names.specs.Inside.{AreScopesNamed, HasScopeContext, HoldsNothing, IsScoped, answer_of, contexts_at, scopes_at, scopes_by}
 use Rattle.bundle_merge_names.specs.Named.{IsGiven, answered_in, held, holder_of, local_in, scopes_in}
 use Rattle.bundle_merge_names.specs.Numbers.{position}
-use Rattle.bundle_merge_whole.proofs.answered.Meta.{reached-by}
-use Rattle.bundle_merge_names.proofs.InsideLemmas.{context_at, inside-has, numbers-are}
+use Rattle.bundle_merge_theory.proofs.answered.Meta.{reached-by}
+use Rattle.bundle_merge_names.proofs.ScopeLemmas.{context_at, inside-has, numbers-are}
 use Rattle.bundle_merge_names.proofs.LabelLemmas.{same-held}
-use Rattle.bundle_merge_names.proofs.ScopeLemmas.{there-below}
+use Rattle.bundle_link_index.proofs.SearchLemmas.{each_place as there-below}
+use Rattle.bundle_merge_theory.proofs.answered.Resolving.{inner_order as inner-order}
 
 -- A label of the code for each label.
 
@@ -65,7 +66,7 @@ taken-for : (taken : e.Taken) → taken_of (taken_for taken) ≡ taken
 taken-for (e.Named x) = refl
 taken-for e.Whole = refl
 
-abbrev target_for : l.Target → Target
+abbrev target_for : l.Target → TargetRef
 target_for (l.Declared k x) = t.Declared k (lent x)
 target_for (l.Namespace d) = t.Namespace d
 target_for (l.External s its) = t.External (lent s) (taken_for its)
@@ -87,24 +88,24 @@ label_for m.Helper = n.Helper
 -- The context of each of them.
 
 -- that of an object for `import.meta`, where this is there of it
-abbrev meta_context : Names → ℕ → Option Answer → ℕ
+abbrev meta_context : BundleNames → ℕ → Option HookAnswer → ℕ
 meta_context names j None = (label_ident names (n.Meta j)).1
 meta_context names j (Some (Fresh properties)) = (label_ident names (n.Meta j)).1
 meta_context names j (Some (Written ctxt notes properties)) = ctxt
 
-meta-context : (names : Names) (j : ℕ) (answer : Option Answer) → stands_written answer ≡ false → meta_context names j answer ≡ (label_ident names (n.Meta j)).1
+meta-context : (names : BundleNames) (j : ℕ) (answer : Option HookAnswer) → stands_written answer ≡ false → meta_context names j answer ≡ (label_ident names (n.Meta j)).1
 meta-context names j None fresh = refl
 meta-context names j (Some (Fresh properties)) fresh = refl
 meta-context names j (Some (Written ctxt notes properties)) fresh = absurd (true≢false fresh)
 
-abbrev label_context : (ℕ → Option Answer) → Names → m.Label → ℕ
+abbrev label_context : (ℕ → Option HookAnswer) → BundleNames → m.Label → ℕ
 label_context answers names (m.Of u) = (label_ident names (label_for (m.Of u))).1
 label_context answers names (m.Parameter c x) = (label_ident names (label_for (m.Parameter c x))).1
 label_context answers names (m.Load c) = (label_ident names (label_for (m.Load c))).1
 label_context answers names (m.Meta j) = meta_context names j (answers j)
 label_context answers names m.Helper = (label_ident names (label_for m.Helper)).1
 
-abbrev context_by : (ℕ → Option Answer) → BundleParts → Names → Contexts
+abbrev context_by : (ℕ → Option HookAnswer) → BundleInput → BundleNames → BundleContexts
 context_by answers bundle names (TopOf j) = unwrap_or (local_in names j) 1
 context_by answers bundle names (WrittenIn j c) = c
 context_by answers bundle names (InsideOf j b) = context_at (scopes_at bundle false j) (contexts_at names false j) b
@@ -118,14 +119,7 @@ abbrev inside : Bool → ℕ → ℕ → Holder
 inside false j b = InsideOf j b
 inside true j b = AnsweredOf j b
 
-inner-order : (top : ℕ) (its : ℕ → ℕ) (begins : ℕ) → in_order top its (begins + 2) ≡ its begins
-inner-order top its begins = by (nat_lt (begins + 2) 2) refl
-  where
-    by : (b : Bool) → nat_lt (begins + 2) 2 ≡ b → (if b then top else its (begins + 2 - 2)) ≡ its begins
-    by true is = let less : begins + 2 < 2 = ltb-true (begins + 2) 2 is in absurd (omega (arith, less))
-    by false is = let same : begins + 2 - 2 ≡ begins = omega arith in ap its same
-
-top-order : (top : ℕ) (its : ℕ → ℕ) (order : ℕ) → order < 2 → in_order top its order ≡ top
+top-order : (top : ℕ) (its : ℕ → ℕ) (order : ℕ) → order < 2 → context_in_order top its order ≡ top
 top-order top its zero less = refl
 top-order top its (suc zero) less = refl
 top-order top its (suc (suc order)) less = absurd (omega (arith, less))
@@ -138,7 +132,7 @@ pub tree-cleared : (items : List Item) → properties_tree (cleared items) ≡ c
 tree-cleared items = ap (λ rest. h.Open 0 h.Module ∷ h.Open 0 h.ExprStmt ∷ h.Open 0 h.ObjectLit ∷ rest) (sym (cleared-append items (h.Close ∷ h.Close ∷ h.Close ∷ [])))
 
 -- a holder is the name of an object that is written already, or a binding inside it
-data IsOfWritten (p : Program) (answers : ℕ → Option Answer) (j c : ℕ) (a : Holder) : Type 0 where
+data IsOfWritten (p : Program) (answers : ℕ → Option HookAnswer) (j c : ℕ) (a : Holder) : Type 0 where
   of_name : (notes : ExportMetadata) (properties : List Item) →
       answers j ≡ Some (Written c notes properties) →
       a ≡ NameOf (m.Meta j) →
@@ -148,18 +142,18 @@ data IsOfWritten (p : Program) (answers : ℕ → Option Answer) (j c : ℕ) (a 
       IsOfWritten p answers j c a
 
 -- how a holder stands in a bundle: at the top of a module, in a list, in an object that is written already, or by a label
-data Stands (p : Program) (answers : ℕ → Option Answer) (bundle : BundleParts) (names : Names) (a : Holder) : Type 0 where
+data Stands (p : Program) (answers : ℕ → Option HookAnswer) (bundle : BundleInput) (names : BundleNames) (a : Holder) : Type 0 where
   stands_written_in : (j c : ℕ) →
       StandsWritten p answers j c →
       IsOfWritten p answers j c a →
       context_by answers bundle names a ≡ c →
       Stands p answers bundle names a
-  stands_top : (j : ℕ) (part : Part) →
+  stands_top : (j : ℕ) (part : BundleModule) →
       a ≡ TopOf j →
       slice_get bundle.parts.now j ≡ Some part →
       context_by answers bundle names a ≡ part.local →
       Stands p answers bundle names a
-  stands_inside : (w : Bool) (j n c : ℕ) (has : HasContext (scopes_at bundle w j) (contexts_at names w j) n c) →
+  stands_inside : (w : Bool) (j n c : ℕ) (has : HasScopeContext (scopes_at bundle w j) (contexts_at names w j) n c) →
       a ≡ inside w j has.scope.begins →
       context_by answers bundle names a ≡ c →
       Stands p answers bundle names a
@@ -169,9 +163,9 @@ data Stands (p : Program) (answers : ℕ → Option Answer) (bundle : BundlePart
       context_by answers bundle names a ≡ ident.1 →
       Stands p answers bundle names a
 
-module _ (p : Program) (list : List ℕ) (answers : ℕ → Option Answer) (bundle : BundleParts) (parts : AreBundleParts p list answers bundle)
-    (before names : Names) (named : AreScopesNamed bundle before (length bundle.parts.now)) (none : (label : Label) → held before label ≡ None) (adds : AddsNames p list (IsGiven (λ j. stands_written (answers j)) (IsHolder p answers)) before names) where
-  abbrev context : Contexts
+module _ (p : Program) (list : List ℕ) (answers : ℕ → Option HookAnswer) (bundle : BundleInput) (parts : AreBundleParts p list answers bundle)
+    (before names : BundleNames) (named : AreScopesNamed bundle before (length bundle.parts.now)) (none : (label : Label) → held before label ≡ None) (adds : GivesNames p list (IsGiven (λ j. stands_written (answers j)) (IsHolder p answers)) before names) where
+  abbrev context : BundleContexts
   context = context_by answers bundle names
 
   abbrev Named : Holder → Type 0
@@ -180,39 +174,39 @@ module _ (p : Program) (list : List ℕ) (answers : ℕ → Option Answer) (bund
   abbrev first : ℕ
   first = position bundle.contexts
 
-  part-there : (j : ℕ) → IsReached p j → (part : Part) × (slice_get bundle.parts.now j ≡ Some part)
+  part-there : (j : ℕ) → IsReached p j → (part : BundleModule) × (slice_get bundle.parts.now j ≡ Some part)
   part-there j reached = there-below bundle.parts.now j ((parts.reached j).0 reached)
 
   same-contexts : (w : Bool) (j : ℕ) → contexts_at before w j ≡ contexts_at names w j
   same-contexts false j = ap (λ (x : Vec (Vec (Option ℕ) Global) Global). list_in x.items j) (sym adds.scopes)
   same-contexts true j = ap (λ (x : Vec (Vec (Option ℕ) Global) Global). list_in x.items j) (sym adds.answered)
 
-  local : (j : ℕ) (part : Part) → slice_get bundle.parts.now j ≡ Some part → local_in names j ≡ Some part.local
+  local : (j : ℕ) (part : BundleModule) → slice_get bundle.parts.now j ≡ Some part → local_in names j ≡ Some part.local
   local j part at = ap (λ (x : Vec ℕ Global). slice_get x.items j) adds.locals ∙ named.locals j part (slice_get_within bundle.parts.now j part at) at
 
-  local-top : (j : ℕ) (part : Part) → slice_get bundle.parts.now j ≡ Some part → context (TopOf j) ≡ part.local
+  local-top : (j : ℕ) (part : BundleModule) → slice_get bundle.parts.now j ≡ Some part → context (TopOf j) ≡ part.local
   local-top j part at = ap (λ (o : Option ℕ). unwrap_or o 1) (local j part at)
 
-  scoped : (j : ℕ) (part : Part) → slice_get bundle.parts.now j ≡ Some part → IsScoped part.denotations.now part.local (scopes_in names j)
+  scoped : (j : ℕ) (part : BundleModule) → slice_get bundle.parts.now j ≡ Some part → IsScoped part.denotations.now part.local (scopes_in names j)
   scoped j part at = subst (IsScoped part.denotations.now part.local) (same-contexts false j) (named.scopes j part (slice_get_within bundle.parts.now j part at) at)
 
-  scoped-answer : (j : ℕ) (part : Part) (its : Answered) → slice_get bundle.parts.now j ≡ Some part → answer_of bundle j ≡ Some its → IsScoped its.denotations.now part.local (answered_in names j)
+  scoped-answer : (j : ℕ) (part : BundleModule) (its : Answered) → slice_get bundle.parts.now j ≡ Some part → answer_of bundle j ≡ Some its → IsScoped its.denotations.now part.local (answered_in names j)
   scoped-answer j part its at is = subst (IsScoped its.denotations.now part.local) (same-contexts true j) (named.answered j part its (slice_get_within bundle.parts.now j part at) at is)
 
-  list-scopes : (j : ℕ) (part : Part) → slice_get bundle.parts.now j ≡ Some part → scopes_at bundle false j ≡ part.denotations.now.scopes.items
-  list-scopes j part at = ap (λ (o : Option Part). scopes_by (option_map (λ (x : Part). x.denotations.now) o)) at
+  list-scopes : (j : ℕ) (part : BundleModule) → slice_get bundle.parts.now j ≡ Some part → scopes_at bundle false j ≡ part.denotations.now.scopes.items
+  list-scopes j part at = ap (λ (o : Option BundleModule). scopes_by (option_map (λ (x : BundleModule). x.denotations.now) o)) at
 
   answer-scopes : (j : ℕ) (its : Answered) → answer_of bundle j ≡ Some its → scopes_at bundle true j ≡ its.denotations.now.scopes.items
   answer-scopes j its is = ap (λ (o : Option Answered). scopes_by (option_map (λ (x : Answered). x.denotations.now) o)) is
 
   -- what is inside has contexts of a range, and what a label has stands behind it
-  was : (w : Bool) (j n c : ℕ) → HasContext (scopes_at bundle w j) (contexts_at names w j) n c → HasContext (scopes_at bundle w j) (contexts_at before w j) n c
-  was w j n c has = subst (λ l. HasContext (scopes_at bundle w j) l n c) (sym (same-contexts w j)) has
+  was : (w : Bool) (j n c : ℕ) → HasScopeContext (scopes_at bundle w j) (contexts_at names w j) n c → HasScopeContext (scopes_at bundle w j) (contexts_at before w j) n c
+  was w j n c has = subst (λ l. HasScopeContext (scopes_at bundle w j) l n c) (sym (same-contexts w j)) has
 
-  in-range : (w : Bool) (j n c : ℕ) → HasContext (scopes_at bundle w j) (contexts_at names w j) n c → (first ≤ c) × (c < position before.contexts)
+  in-range : (w : Bool) (j n c : ℕ) → HasScopeContext (scopes_at bundle w j) (contexts_at names w j) n c → (first ≤ c) × (c < position before.contexts)
   in-range w j n c has = named.apart.within w j n c (was w j n c has)
 
-  held-from : AreHeld (position before.contexts) names
+  held-from : AreLabelContexts (position before.contexts) names
   held-from = adds.held_so (position before.contexts) (omega arith) (record {
     within = λ label ident at. absurd (none-some ident (sym (none label) ∙ at));
     apart = λ label other i j at_i at_j same. absurd (none-some i (sym (none label) ∙ at_i));
@@ -222,31 +216,31 @@ module _ (p : Program) (list : List ℕ) (answers : ℕ → Option Answer) (bund
   behind label ident at = let w = held-from.within label ident at in w.0
 
   -- the list of a module, and that of what the hook answered for it, in the words of the program
-  denoted-in : (j : ℕ) (part : Part) (kind : ModuleKind) (i : ℕ) (its : ScopeKind) (b : ℕ) (name : Name) → slice_get bundle.parts.now j ≡ Some part → denoted_as BySymbol kind (tree_of p j) i ≡ Some (Bound (Inner its b) name) → denoted_as BySymbol kind (list_of_part part) i ≡ Some (Bound (Inner its b) name)
+  denoted-in : (j : ℕ) (part : BundleModule) (kind : ModuleKind) (i : ℕ) (its : ScopeKind) (b : ℕ) (name : Name) → slice_get bundle.parts.now j ≡ Some part → denoted_as BySymbol kind (tree_of p j) i ≡ Some (Bound (Inner its b) name) → denoted_as BySymbol kind (list_of_part part) i ≡ Some (Bound (Inner its b) name)
   denoted-in j part kind i its b name at denoted = ap (λ ds. slice_get ds i) (sym (ap (denotations BySymbol kind) (parts.parts j part at).tree ∙ denotations-cleared kind (list_of_part part))) ∙ denoted
 
-  answer-is : (j : ℕ) (part : Part) (properties : List Item) → slice_get bundle.parts.now j ≡ Some part → answers j ≡ Some (Fresh properties) → (its : Answered) × (answer_of bundle j ≡ Some its) × IsAnswerOf properties its
-  answer-is j part properties at told = by (answer_of bundle j) refl (subst (λ o. AreAnswers o part (answer_of bundle j)) told (parts.answered j part at))
+  answer-is : (j : ℕ) (part : BundleModule) (properties : List Item) → slice_get bundle.parts.now j ≡ Some part → answers j ≡ Some (Fresh properties) → (its : Answered) × (answer_of bundle j ≡ Some its) × IsReadAnswer properties its
+  answer-is j part properties at told = by (answer_of bundle j) refl (subst (λ o. AreMetaAnswers o part (answer_of bundle j)) told (parts.answered j part at))
     where
-      by : (o : Option Answered) → answer_of bundle j ≡ o → AreAnswers (Some (Fresh properties)) part o → (its : Answered) × (answer_of bundle j ≡ Some its) × IsAnswerOf properties its
+      by : (o : Option Answered) → answer_of bundle j ≡ o → AreMetaAnswers (Some (Fresh properties)) part o → (its : Answered) × (answer_of bundle j ≡ Some its) × IsReadAnswer properties its
       by None e are = absurd are
       by (Some its) e are = (its, e, are.1)
 
-  answer-told : (j : ℕ) (part : Part) (its : Answered) → slice_get bundle.parts.now j ≡ Some part → answer_of bundle j ≡ Some its → (properties : List Item) × IsAnswerOf properties its
-  answer-told j part its at is = by (answers j) (subst (AreAnswers (answers j) part) is (parts.answered j part at))
+  answer-told : (j : ℕ) (part : BundleModule) (its : Answered) → slice_get bundle.parts.now j ≡ Some part → answer_of bundle j ≡ Some its → (properties : List Item) × IsReadAnswer properties its
+  answer-told j part its at is = by (answers j) (subst (AreMetaAnswers (answers j) part) is (parts.answered j part at))
     where
-      by : (o : Option Answer) → AreAnswers o part (Some its) → (properties : List Item) × IsAnswerOf properties its
+      by : (o : Option HookAnswer) → AreMetaAnswers o part (Some its) → (properties : List Item) × IsReadAnswer properties its
       by None are = absurd are
       by (Some (Fresh properties)) are = (properties, are.1)
       by (Some (Written ctxt notes properties)) are = absurd are
 
-  denoted-answered : (properties : List Item) (its : Answered) (i : ℕ) (kind : ScopeKind) (b : ℕ) (name : Name) → IsAnswerOf properties its → denoted_as BySymbol Es (properties_tree properties) i ≡ Some (Bound (Inner kind b) name) → denoted_as BySymbol Es (map item_of its.pieces.now) i ≡ Some (Bound (Inner kind b) name)
+  denoted-answered : (properties : List Item) (its : Answered) (i : ℕ) (kind : ScopeKind) (b : ℕ) (name : Name) → IsReadAnswer properties its → denoted_as BySymbol Es (properties_tree properties) i ≡ Some (Bound (Inner kind b) name) → denoted_as BySymbol Es (map item_of its.pieces.now) i ≡ Some (Bound (Inner kind b) name)
   denoted-answered properties its i kind b name is denoted = ap (λ ds. slice_get ds i) (sym (ap (denotations BySymbol Es) (ap properties_tree is.told ∙ tree-cleared (answered_items its) ∙ ap cleared (sym is.listed)) ∙ denotations-cleared Es (map item_of its.pieces.now))) ∙ denoted
 
   -- how each holder stands
-  in-list : (w : Bool) (j b n c : ℕ) (scopes : List Scope) → scopes_at bundle w j ≡ scopes → (one : HasContext scopes (contexts_at names w j) n c) → one.scope.begins ≡ b → context_at scopes (contexts_at names w j) b ≡ c → context (inside w j b) ≡ context_at (scopes_at bundle w j) (contexts_at names w j) b → Stands p answers bundle names (inside w j b)
+  in-list : (w : Bool) (j b n c : ℕ) (scopes : List Scope) → scopes_at bundle w j ≡ scopes → (one : HasScopeContext scopes (contexts_at names w j) n c) → one.scope.begins ≡ b → context_at scopes (contexts_at names w j) b ≡ c → context (inside w j b) ≡ context_at (scopes_at bundle w j) (contexts_at names w j) b → Stands p answers bundle names (inside w j b)
   in-list w j b n c scopes same one begins looked is =
-      let has : HasContext (scopes_at bundle w j) (contexts_at names w j) n c = record { scope = one.scope; there = ap (λ l. slice_get l n) same ∙ one.there; inner = one.inner; its = one.its } in
+      let has : HasScopeContext (scopes_at bundle w j) (contexts_at names w j) n c = record { scope = one.scope; there = ap (λ l. slice_get l n) same ∙ one.there; inner = one.inner; its = one.its } in
       stands_inside w j n c has (ap (inside w j) (sym begins)) (is ∙ ap (λ l. context_at l (contexts_at names w j) b) same ∙ looked)
 
   by-label : (a : Holder) (label : Label) → holder_of label ≡ a → Named a → context a ≡ (label_ident names label).1 → Stands p answers bundle names a
@@ -262,7 +256,7 @@ module _ (p : Program) (list : List ℕ) (answers : ℕ → Option Answer) (bund
   }
 
   -- an object for an `import.meta`
-  stands-meta : (j : ℕ) → IsDue p AsModule (HoldsMeta j) → (answer : Option Answer) → answers j ≡ answer → Stands p answers bundle names (NameOf (m.Meta j))
+  stands-meta : (j : ℕ) → IsDue p AsModule (HoldsMeta j) → (answer : Option HookAnswer) → answers j ≡ answer → Stands p answers bundle names (NameOf (m.Meta j))
   stands-meta j due None told = by-label (NameOf (m.Meta j)) (n.Meta j) refl
       (record { its = added (HoldsMeta j) due holds_meta; fresh = λ k same. let one : k ≡ j = cc in ap (λ i. stands_written (answers i)) one ∙ ap stands_written told })
       (ap (meta_context names j) told)
@@ -315,28 +309,28 @@ module _ (p : Program) (list : List ℕ) (answers : ℕ → Option Answer) (bund
   own a (stands_inside w j n c has is same) = let range = in-range w j n c has in let low = range.0 in let base = above in omega (arith, low, base, same)
   own a (stands_label label ident is there same) = let low = behind label ident there in let base = above in let later = named.later in omega (arith, low, base, later, same)
 
-  top-inside : {R : Type 0} (j : ℕ) (part : Part) (w : Bool) (k n c x y : ℕ) → slice_get bundle.parts.now j ≡ Some part → HasContext (scopes_at bundle w k) (contexts_at names w k) n c → x ≡ part.local → y ≡ c → x ≡ y → R
+  top-inside : {R : Type 0} (j : ℕ) (part : BundleModule) (w : Bool) (k n c x y : ℕ) → slice_get bundle.parts.now j ≡ Some part → HasScopeContext (scopes_at bundle w k) (contexts_at names w k) n c → x ≡ part.local → y ≡ c → x ≡ y → R
   top-inside j part w k n c x y at has is_x is_y same = let high = parts.free j part at in let range = in-range w k n c has in let low = range.0 in absurd (omega (arith, high, low, is_x, is_y, same))
 
-  top-label : {R : Type 0} (j : ℕ) (part : Part) (label : Label) (ident : Ident) (x y : ℕ) → slice_get bundle.parts.now j ≡ Some part → held names label ≡ Some ident → x ≡ part.local → y ≡ ident.1 → x ≡ y → R
+  top-label : {R : Type 0} (j : ℕ) (part : BundleModule) (label : Label) (ident : Ident) (x y : ℕ) → slice_get bundle.parts.now j ≡ Some part → held names label ≡ Some ident → x ≡ part.local → y ≡ ident.1 → x ≡ y → R
   top-label j part label ident x y at there is_x is_y same = let high = parts.free j part at in let low = behind label ident there in let later = named.later in absurd (omega (arith, high, low, later, is_x, is_y, same))
 
-  inside-label : {R : Type 0} (w : Bool) (j n c : ℕ) (label : Label) (ident : Ident) (x y : ℕ) → HasContext (scopes_at bundle w j) (contexts_at names w j) n c → held names label ≡ Some ident → x ≡ c → y ≡ ident.1 → x ≡ y → R
+  inside-label : {R : Type 0} (w : Bool) (j n c : ℕ) (label : Label) (ident : Ident) (x y : ℕ) → HasScopeContext (scopes_at bundle w j) (contexts_at names w j) n c → held names label ≡ Some ident → x ≡ c → y ≡ ident.1 → x ≡ y → R
   inside-label w j n c label ident x y has there is_x is_y same = let range = in-range w j n c has in let high = range.1 in let low = behind label ident there in absurd (omega (arith, high, low, is_x, is_y, same))
 
-  one-scope : (w v : Bool) (j k n i c d : ℕ) (x : HasContext (scopes_at bundle w j) (contexts_at names w j) n c) (y : HasContext (scopes_at bundle v k) (contexts_at names v k) i d) → c ≡ d → inside w j x.scope.begins ≡ inside v k y.scope.begins
+  one-scope : (w v : Bool) (j k n i c d : ℕ) (x : HasScopeContext (scopes_at bundle w j) (contexts_at names w j) n c) (y : HasScopeContext (scopes_at bundle v k) (contexts_at names v k) i d) → c ≡ d → inside w j x.scope.begins ≡ inside v k y.scope.begins
   one-scope w v j k n i c d x y same =
-      let other : HasContext (scopes_at bundle v k) (contexts_at names v k) i c = record { scope = y.scope; there = y.there; inner = y.inner; its = y.its ∙ ap (λ z. Some (Some z)) (sym same) } in
+      let other : HasScopeContext (scopes_at bundle v k) (contexts_at names v k) i c = record { scope = y.scope; there = y.there; inner = y.inner; its = y.its ∙ ap (λ z. Some (Some z)) (sym same) } in
       let one = named.apart.apart w v j k n i c (was w j n c x) (was v k i c other) in
       let there : slice_get (scopes_at bundle w j) n ≡ slice_get (scopes_at bundle v k) i = ap (λ z. slice_get (scopes_at bundle z j) n) one.0 ∙ ap (λ z. slice_get (scopes_at bundle v z) n) one.1 ∙ ap (slice_get (scopes_at bundle v k)) one.2 in
       let scope : x.scope ≡ y.scope = same_Some x.scope y.scope (sym x.there ∙ there ∙ y.there) in
       ap (λ z. inside z j x.scope.begins) one.0 ∙ ap (λ z. inside v z x.scope.begins) one.1 ∙ ap (λ (z : Scope). inside v k z.begins) scope
 
   -- what is written already stands apart from all that gets a context, and from tops
-  written-top : {R : Type 0} (j c k x y : ℕ) (part : Part) → StandsWritten p answers j c → slice_get bundle.parts.now k ≡ Some part → x ≡ c → y ≡ part.local → x ≡ y → R
+  written-top : {R : Type 0} (j c k x y : ℕ) (part : BundleModule) → StandsWritten p answers j c → slice_get bundle.parts.now k ≡ Some part → x ≡ c → y ≡ part.local → x ≡ y → R
   written-top j c k x y part w at is_x is_y same = absurd (parts.written.tops j k c part w at (sym is_x ∙ same ∙ is_y))
 
-  written-inside : {R : Type 0} (j c : ℕ) (v : Bool) (k n d x y : ℕ) → StandsWritten p answers j c → HasContext (scopes_at bundle v k) (contexts_at names v k) n d → x ≡ c → y ≡ d → x ≡ y → R
+  written-inside : {R : Type 0} (j c : ℕ) (v : Bool) (k n d x y : ℕ) → StandsWritten p answers j c → HasScopeContext (scopes_at bundle v k) (contexts_at names v k) n d → x ≡ c → y ≡ d → x ≡ y → R
   written-inside j c v k n d x y w has is_x is_y same = let high = parts.written.free j c w in let range = in-range v k n d has in let low = range.0 in absurd (omega (arith, high, low, is_x, is_y, same))
 
   written-label : {R : Type 0} (j c : ℕ) (label : Label) (ident : Ident) (x y : ℕ) → StandsWritten p answers j c → held names label ≡ Some ident → x ≡ c → y ≡ ident.1 → x ≡ y → R
@@ -415,16 +409,16 @@ module _ (p : Program) (list : List ℕ) (answers : ℕ → Option Answer) (bund
     labels = label-held;
   }
 
-pub same-labels : (a b : Names) → a.labels ≡ b.labels → (label : Label) → held a label ≡ held b label
+pub same-labels : (a b : BundleNames) → a.labels ≡ b.labels → (label : Label) → held a label ≡ held b label
 same-labels a b same label = ap (λ x. option_map ident_of (get_by (label_impl.ghosts.eq label) x)) same
 
 -- first the scopes get contexts, and then labels their names
-pub names-given : (bundle : BundleParts) (old before names : Names)
+pub names-given : (bundle : BundleInput) (old before names : BundleNames)
     → HoldsNothing bundle old
     → (HoldsNothing bundle old → AreScopesNamed bundle before (length bundle.parts.now))
     → before.labels ≡ old.labels
-    → (p : Program) (list : List ℕ) (answers : ℕ → Option Answer)
+    → (p : Program) (list : List ℕ) (answers : ℕ → Option HookAnswer)
     → AreBundleParts p list answers bundle
-    → AddsNames p list (IsGiven (λ j. stands_written (answers j)) (IsHolder p answers)) before names
-    → (context : Contexts) × AreNamesOf p list answers context bundle names
+    → GivesNames p list (IsGiven (λ j. stands_written (answers j)) (IsHolder p answers)) before names
+    → (context : BundleContexts) × AreNamesOf p list answers context bundle names
 names-given bundle old before names nothing scopes labels p list answers parts adds = (context_by answers bundle names, are-names p list answers bundle parts before names (scopes nothing) (λ label. same-labels before old labels label ∙ nothing.labels label) adds)

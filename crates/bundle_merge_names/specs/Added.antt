@@ -12,15 +12,15 @@ use Rattle.bundle_rules.specs.Program.{Program, tree_of, IsReached}
 use Rattle.bundle_merge_names.specs.declared.error.MergeError.{MergeError}
 use Rattle.bundle_merge_names.specs.declared.error.MergeError.TheVariants.{ContextsUsedUp, OutOfMemory}
 use Rattle.bundle_merge_names.specs.declared.names.Label.{Label}
-use Rattle.bundle_merge_names.specs.declared.names.Names.{Names}
+use Rattle.bundle_merge_names.specs.declared.names.BundleNames.{BundleNames}
 use Rattle.bundle_merge_names.specs.Bundle.{holder_symbol}
-use Rattle.bundle_merge_whole.specs.made.Given.{Holder, NameOf, HelperParameter, HelperVariable}
-use Rattle.bundle_merge_names.specs.Held.{AreAllHeld, AreHeld}
+use Rattle.bundle_merge_theory.specs.made.Given.{Holder, NameOf, HelperParameter, HelperVariable}
+use Rattle.bundle_merge_names.specs.Held.{AreTakenByLabels, AreLabelContexts}
 use Rattle.bundle_merge_names.specs.Named.{held, holder_of}
 use Rattle.bundle_merge_names.specs.Numbers.{position}
 
 -- just those of which it holds get names, and all others keep what they have
-pub record AddsNames (p : Program) (list : List ℕ) (Those : Holder → Type 0) (old new : Names) : Type 0 where
+pub record GivesNames (p : Program) (list : List ℕ) (Those : Holder → Type 0) (old new : BundleNames) : Type 0 where
   pub kept : (other : Label) (ident : Ident) → held old other ≡ Some ident → held new other ≡ Some ident
   pub there : (other : Label) → Those (holder_of other) → (ident : Ident) × (held new other ≡ Some ident)
   pub others : (other : Label) (ident : Ident) →
@@ -28,14 +28,15 @@ pub record AddsNames (p : Program) (list : List ℕ) (Those : Holder → Type 0)
       (held old other ≡ Some ident)
       ⊎ (Those (holder_of other) × (ident.0 ≡ holder_symbol p list (holder_of other)))
   pub later : position old.contexts ≤ position new.contexts
-  pub held_so : (from : ℕ) → from ≤ position old.contexts → AreHeld from old → AreHeld from new
-  pub all_so : (from : ℕ) → AreAllHeld from old → AreAllHeld from new
+  pub held_so : (from : ℕ) → from ≤ position old.contexts → AreLabelContexts from old →
+      AreLabelContexts from new
+  pub all_so : (from : ℕ) → AreTakenByLabels from old → AreTakenByLabels from new
   pub locals : new.locals ≡ old.locals
   pub scopes : new.scopes ≡ old.scopes
   pub answered : new.answered ≡ old.answered
 
 -- all contexts are used up: just such labels got names since, and one of them has none
-pub record AreUsedUp (Those : Holder → Type 0) (old last : Names) : Type 0 where
+pub record AreUsedUp (Those : Holder → Type 0) (old last : BundleNames) : Type 0 where
   pub label : Label
   pub due : Those (holder_of label)
   pub none : held last label ≡ None
@@ -44,12 +45,12 @@ pub record AreUsedUp (Those : Holder → Type 0) (old last : Names) : Type 0 whe
       held last other ≡ Some ident →
       (held old other ≡ Some ident) ⊎ Those (holder_of other)
   pub later : position old.contexts ≤ position last.contexts
-  pub all_so : (from : ℕ) → AreAllHeld from old → AreAllHeld from last
+  pub all_so : (from : ℕ) → AreTakenByLabels from old → AreTakenByLabels from last
 
 -- such labels get no names: for memory, or since all contexts are used up before each has one
-pub data RefusesLabels (Those : Holder → Type 0) (old : Names) : MergeError → Type 0 where
+pub data RefusesLabels (Those : Holder → Type 0) (old : BundleNames) : MergeError → Type 0 where
   for_memory : RefusesLabels Those old OutOfMemory
-  for_contexts : (last : Names) →
+  for_contexts : (last : BundleNames) →
       AreUsedUp Those old last →
       RefusesLabels Those old (ContextsUsedUp None)
 

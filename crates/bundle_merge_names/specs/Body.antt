@@ -2,7 +2,7 @@
 use Rattle.std.specs.Prelude.{◌≡◌, ℕ, suc, ◌==◌, Bool, true, false, List, Option, Some, None, Contains, slice_get, if◌then◌else◌}
 use Rattle.std.specs.List.{AllZip}
 use Rattle.std.specs.BTreeMap.{get_by_text}
-use Rattle.bundle_tree_piece.specs.Item.{Item}
+use Rattle.bundle_syntax.specs.Item.{Item}
 use Rattle.bundle_rules.specs.Cleared.{cleared}
 use Rattle.bundle_rules.specs.Entries as e
 use Rattle.bundle_rules.specs.Entries.{has_import_meta}
@@ -13,13 +13,13 @@ use Rattle.bundle_rules.specs.Nodes.{Text}
 use Rattle.bundle_rules.specs.Program.{Program, tree_of, calls_of, resolves, IsReached}
 use Rattle.bundle_rules.specs.Scopes.{ModuleKind}
 use Rattle.bundle_rules.specs.Declarations.{BySymbol, declared}
-use Rattle.bundle_scope_denote.specs.Listed.{IsTable}
+use Rattle.bundle_scope_denote.specs.Listed.{IsDenotationTable}
 use Rattle.bundle_scope_names.proofs.Numbering.{Numbering, context_of}
 use Rattle.bundle_link_tables.specs.declared.table.RequireCall.{RequireCall}
 use Rattle.bundle_link_tables.specs.declared.table.Use.{Use}
 use Rattle.bundle_link_index.specs.Programs.{IsTableOf}
 use Rattle.bundle_link_index.specs.Says.{target_of}
-use Rattle.bundle_link_index.specs.declared.target.Target.{Target}
+use Rattle.bundle_link_index.specs.declared.target.TargetRef.{TargetRef}
 use Rattle.bundle_link_targets.specs.Handed.{IsMeaningAt}
 use Rattle.bundle_link_targets.specs.Linked.{IsLinkingOf}
 use Rattle.bundle_link_targets.specs.Meant.{AreModules}
@@ -30,15 +30,15 @@ use Rattle.bundle_tree_rebuild.specs.Work.{rewrite_step}
 use Rattle.bundle_tree_rebuild.specs.declared.rewrite.Rewrite.{Rewrite}
 use Rattle.bundle_tree_rebuild.specs.declared.rewrite.Whole.TheVariants as w
 use Rattle.bundle_merge_names.specs.declared.names.Label.TheVariants as n
-use Rattle.bundle_merge_names.specs.declared.names.Names.{Names}
-use Rattle.bundle_merge_names.specs.declared.part.Part.{Part}
-use Rattle.bundle_merge_whole.specs.made.Given.{Contexts, ident_of_label, numbers_in}
+use Rattle.bundle_merge_names.specs.declared.names.BundleNames.{BundleNames}
+use Rattle.bundle_merge_names.specs.declared.part.BundleModule.{BundleModule}
+use Rattle.bundle_merge_theory.specs.made.Given.{BundleContexts, ident_of_label, numbers_in}
 use Rattle.bundle_merge_names.specs.Named.{scopes_in}
 use Rattle.bundle_merge_names.specs.Idents.{label_ident, object_ident, target_ident}
 use Rattle.bundle_merge_names.specs.Bundle.{list_of_part}
 use Rattle.bundle_merge_names.specs.Numbers.{AreNumbersOf}
-use Rattle.bundle_merge_names.specs.Own.{told}
-use Rattle.bundle_merge_whole.specs.made.Steps.{IsStep, IsStepTo, whole_of}
+use Rattle.bundle_merge_names.specs.Own.{rewrite_told}
+use Rattle.bundle_merge_theory.specs.made.Steps.{IsStep, IsStepTo, whole_of}
 
 -- whether what is told stands at this place
 abbrev pub is_at : {A : Type 0} → (A → ℕ) → ℕ → Option A → Bool
@@ -59,50 +59,50 @@ past_by true number = suc number
 past_by false number = number
 
 -- the module to which the call that is told leads, where its name stands at this place
-abbrev pub called_by : (Text → Option ℕ) → ℕ → Option RequireCall → Option ℕ
-called_by leads place None = None
-called_by leads place (Some call) = if suc call.place == place then leads call.specifier.now else None
+abbrev pub module_called : (Text → Option ℕ) → ℕ → Option RequireCall → Option ℕ
+module_called leads place None = None
+module_called leads place (Some call) = if suc call.place == place then leads call.specifier.now else None
 
 -- what linking finds of the use of this number in a module
-abbrev pub IsFound : Linking → ℕ → ℕ → Option Meaning → Type 0
-IsFound linking k number found =
+abbrev pub IsUseFound : Linking → ℕ → ℕ → Option Meaning → Type 0
+IsUseFound linking k number found =
     (p : Program) → IsLinkingOf p linking → IsReached p k → IsMeaningAt p k number found
 
 -- the next use, if it stands at the place, means nothing
 abbrev pub MeansNothing : Linking → ℕ → ℕ → Bool → Type 0
-MeansNothing linking k number is_use = is_use ≡ true → IsFound linking k number None
+MeansNothing linking k number is_use = is_use ≡ true → IsUseFound linking k number None
 
 -- what becomes of the name at a place, behind so many uses and calls
-pub data IsRewritten (part : Part) (k : ℕ) (linking : Linking) (names : Names) (uses calls place : ℕ) (own rewrite : Rewrite) : Type 0 where
+pub data IsRewritten (part : BundleModule) (k : ℕ) (linking : Linking) (names : BundleNames) (uses calls place : ℕ) (own rewrite : Rewrite) : Type 0 where
   by_use : (meaning : Meaning) →
       is_use_at place (slice_get part.tables.now.uses.items uses) ≡ true →
-      IsFound linking k uses (Some meaning) →
-      told rewrite ≡ (target_ident names meaning.target, whole_of meaning.steps) →
+      IsUseFound linking k uses (Some meaning) →
+      rewrite_told rewrite ≡ (target_ident names meaning.target, whole_of meaning.steps) →
       IsRewritten part k linking names uses calls place own rewrite
   by_call : (c : ℕ) →
       MeansNothing linking k uses (is_use_at place (slice_get part.tables.now.uses.items uses)) →
-      called_by (get_by_text part.leads.now) place (slice_get part.tables.now.calls.items calls) ≡ Some c →
-      told rewrite ≡ (label_ident names (n.Load c), w.Call) →
+      module_called (get_by_text part.leads.now) place (slice_get part.tables.now.calls.items calls) ≡ Some c →
+      rewrite_told rewrite ≡ (label_ident names (n.Load c), w.Call) →
       IsRewritten part k linking names uses calls place own rewrite
   by_own :
       MeansNothing linking k uses (is_use_at place (slice_get part.tables.now.uses.items uses)) →
-      called_by (get_by_text part.leads.now) place (slice_get part.tables.now.calls.items calls) ≡ None →
-      told rewrite ≡ told own →
+      module_called (get_by_text part.leads.now) place (slice_get part.tables.now.calls.items calls) ≡ None →
+      rewrite_told rewrite ≡ rewrite_told own →
       IsRewritten part k linking names uses calls place own rewrite
 
 -- a module of a program, read as this kind, with its list and its tables, linked, where names are those of the contexts
-pub record IsReadAs (p : Program) (list : List ℕ) (context : Contexts) (k : ℕ) (kind : ModuleKind) (part : Part)
-    (linking : Linking) (names : Names) : Type 0 where
+pub record IsModuleReadAs (p : Program) (list : List ℕ) (context : BundleContexts) (k : ℕ) (kind : ModuleKind) (part : BundleModule)
+    (linking : Linking) (names : BundleNames) : Type 0 where
   pub reached : IsReached p k
   pub modules : AreModules p
   pub linked : IsLinkingOf p linking
   pub tree : tree_of p k ≡ cleared (list_of_part part)
-  pub table : IsTable BySymbol kind (list_of_part part) part.denotations.now
+  pub table : IsDenotationTable BySymbol kind (list_of_part part) part.denotations.now
   pub tables : IsTableOf p k part.tables.now
   pub meta : part.tables.now.has_import_meta ≡ has_import_meta (tree_of p k)
   pub leads : (s : Text) → p.leads k s ≡ get_by_text part.leads.now s
   pub numbers : AreNumbersOf kind (list_of_part part) part.denotations.now (numbers_in context k) (scopes_in names k)
-  pub targets : (t : Target) →
+  pub targets : (t : TargetRef) →
       m.IsMeant p (m.Of (target_of t)) →
       target_ident names t ≡ ident_of_label p list context (m.Of (target_of t))
   pub loads : (c : ℕ) (call : e.RequireCall) →
@@ -113,8 +113,9 @@ pub record IsReadAs (p : Program) (list : List ℕ) (context : Contexts) (k : �
       object_ident names part.written k ≡ ident_of_label p list context (m.Meta k)
 
 -- these become the occurrences of the module in turn
-abbrev pub AreSteps : Program → List ℕ → Contexts → ℕ → ModuleKind → List Rewrite → Type 0
-AreSteps p list context k kind rewrites =
+abbrev pub AreModuleRewrites : Program → List ℕ → BundleContexts → ℕ → ModuleKind → List Rewrite →
+    Type 0
+AreModuleRewrites p list context k kind rewrites =
     AllZip (λ o rewrite. IsStep p list context k kind o (rewrite_step rewrite)) (occurrences (tree_of p k)) rewrites
 
 -- the identifier of an occurrence of a list, where its bindings have the contexts of a numbering

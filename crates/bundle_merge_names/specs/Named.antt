@@ -8,9 +8,9 @@ use Rattle.bundle_link_index.specs.Says.{target_of}
 use Rattle.bundle_link_targets.specs.Lists.{list_in}
 use Rattle.bundle_merge_names.specs.declared.names.Label.{Label}
 use Rattle.bundle_merge_names.specs.declared.names.Label.TheVariants as n
-use Rattle.bundle_merge_names.specs.declared.names.Names.{Names}
+use Rattle.bundle_merge_names.specs.declared.names.BundleNames.{BundleNames}
 use Rattle.bundle_merge_names.specs.contracts.names.LabelPartialEq.TheImpl as label_impl
-use Rattle.bundle_merge_whole.specs.made.Given.{Holder, NameOf, HelperParameter, HelperVariable}
+use Rattle.bundle_merge_theory.specs.made.Given.{Holder, NameOf, HelperParameter, HelperVariable}
 
 -- what a label of the code stands for
 abbrev pub holder_of : Label → Holder
@@ -27,16 +27,16 @@ pub record IsGiven (written : ℕ → Bool) (Those : Holder → Type 0) (holder 
   pub fresh : (k : ℕ) → holder ≡ NameOf (m.Meta k) → written k ≡ false
 
 -- the identifier that is held for a label, if there is one
-abbrev pub held : Names → Label → Option Ident
+abbrev pub held : BundleNames → Label → Option Ident
 held names label = option_map ident_of (get_by (label_impl.ghosts.eq label) names.labels)
 
 -- the context of the top of a module
-abbrev pub local_in : Names → ℕ → Option ℕ
+abbrev pub local_in : BundleNames → ℕ → Option ℕ
 local_in names k = slice_get names.locals.items k
 
 -- those of the scopes in its list, and in what the hook answered for it
-abbrev pub scopes_in : Names → ℕ → List (Option ℕ)
+abbrev pub scopes_in : BundleNames → ℕ → List (Option ℕ)
 scopes_in names k = list_in names.scopes.items k
 
-abbrev pub answered_in : Names → ℕ → List (Option ℕ)
+abbrev pub answered_in : BundleNames → ℕ → List (Option ℕ)
 answered_in names k = list_in names.answered.items k

@@ -1,21 +1,20 @@
 -- The contexts that the scopes of a list have, by their numbers in its table.
 use Rattle.std.specs.Prelude.{◌≡◌, ℕ, ◌<◌, ◌≤◌, Bool, true, false, List, Option, Some, map, slice_get, unwrap_or}
-use Rattle.bundle_tree_piece.specs.Item.{Item}
+use Rattle.bundle_syntax.specs.Item.{Item}
 use Rattle.bundle_rules.specs.Scopes.{ModuleKind, Scope, scope_order}
-use Rattle.bundle_rules.specs.Declarations.{BySymbol}
+use Rattle.bundle_rules.specs.Declarations.{BySymbol, Name}
 use Rattle.bundle_rules.specs.Denotes.{Bound, denoted_as}
-use Rattle.bundle_rules.specs.Declarations.{Name}
 use Rattle.bundle_scope_denote.specs.declared.table.Denotations.{Denotations}
 use Rattle.bundle_scope_denote.specs.declared.table.ScopeKind.{ScopeKind}
 use Rattle.bundle_scope_denote.specs.declared.table.ScopeKind.TheVariants as k
 use Rattle.bundle_scope_denote.specs.declared.table.Scope as s
-use Rattle.bundle_scope_denote.specs.Chains.{scope_at}
-use Rattle.bundle_scope_denote.specs.Numbers.{numbered}
+use Rattle.bundle_scope_denote.specs.Chains.{numbered_scope_at}
+use Rattle.bundle_scope_denote.specs.Numbers.{numbered_scope}
 use Rattle.bundle_scope_names.proofs.Numbering.{Numbering}
-use Rattle.bundle_merge_names.specs.declared.context.Contexts as c
+use Rattle.bundle_merge_names.specs.declared.context.FreshContexts as c
 
 -- the next context; where none is left, the number past the last
-abbrev pub position : c.Contexts → ℕ
+abbrev pub position : c.FreshContexts → ℕ
 position contexts = unwrap_or contexts.next 4294967296
 
 -- whether a scope is the top of a module, or the function as which a CommonJS module is read
@@ -26,13 +25,7 @@ is_at_top _ = false
 
 -- the scope with a number, of which the table says what it is
 abbrev pub scope_of : Denotations → ℕ → Option Scope
-scope_of table number = scope_at (map numbered table.scopes.items) number
-
--- a name of the scope with this number occurs in the list
-pub record IsOccurring (kind : ModuleKind) (items : List Item) (scope : Scope) : Type 0 where
-  pub i : ℕ
-  pub name : Name
-  pub denoted : denoted_as BySymbol kind items i ≡ Some (Bound scope name)
+scope_of table number = numbered_scope_at (map numbered_scope table.scopes.items) number
 
 -- the contexts of a list's scopes, by their numbers: each scope of which a name occurs has that of
 -- the numbering
@@ -64,11 +57,3 @@ pub record AreGivenTo (table : Denotations) (local from to : ℕ) (contexts : Li
       slice_get contexts n ≡ Some (Some c) →
       slice_get contexts m ≡ Some (Some c) →
       n ≡ m
-
--- each scope of which a name occurs has one
-pub record AreAllGiven (kind : ModuleKind) (items : List Item) (table : Denotations)
-    (contexts : List (Option ℕ)) : Type 0 where
-  pub each : (n : ℕ) (scope : Scope) →
-      scope_of table n ≡ Some scope →
-      IsOccurring kind items scope →
-      (c : ℕ) × (slice_get contexts n ≡ Some (Some c))

@@ -1,7 +1,7 @@
 -- The steps by which the names of a list become those of what they denote, as its table tells it.
 use Rattle.std.specs.Prelude.{◌≡◌, ℕ, List, [], Option, Some, None, option_and_then, slice_get}
-use Rattle.bundle_tree_piece.specs.Item as h
-use Rattle.bundle_tree_piece.specs.Item.{Item}
+use Rattle.bundle_syntax.specs.Item as h
+use Rattle.bundle_syntax.specs.Item.{Item}
 use Rattle.bundle_rules.specs.Idents.{Ident}
 use Rattle.bundle_rules.specs.Nodes.{Text}
 use Rattle.bundle_scope_denote.specs.declared.table.Binding.{Binding}
@@ -13,9 +13,9 @@ use Rattle.bundle_tree_places.specs.Marks.{ident_of}
 use Rattle.bundle_tree_rebuild.specs.declared.rewrite.Rewrite.{Rewrite}
 
 -- the symbol of what stands at a place, if it is an identifier
-abbrev pub symbol_by : Option Item → Text
-symbol_by (Some (h.Ident field sym ctxt role)) = sym
-symbol_by _ = []
+abbrev pub ident_symbol : Option Item → Text
+ident_symbol (Some (h.Ident field sym ctxt role)) = sym
+ident_symbol _ = []
 
 -- the context that is held, or else that of globals
 abbrev pub or_global : Option (Option ℕ) → ℕ
@@ -38,11 +38,11 @@ context_by contexts (Some binding) = context_in contexts binding.scope
 -- the identifier that an entry of the table becomes
 abbrev pub own_ident : List Item → Denotations → List (Option ℕ) → Denoted → Ident
 own_ident items table contexts entry =
-    (symbol_by (slice_get items entry.place), context_by contexts (binding_in table.bindings.items entry.binding))
+    (ident_symbol (slice_get items entry.place), context_by contexts (binding_in table.bindings.items entry.binding))
 
 -- the identifier that a rewrite puts, and how much it stands for
-abbrev pub told : Rewrite → Ident × Whole
-told rewrite = (ident_of rewrite.name, rewrite.whole)
+abbrev pub rewrite_told : Rewrite → Ident × Whole
+rewrite_told rewrite = (ident_of rewrite.name, rewrite.whole)
 
 -- the same of an entry of the table
 abbrev pub own_told : List Item → Denotations → List (Option ℕ) → Denoted → Ident × Whole
@@ -50,4 +50,4 @@ own_told items table contexts entry = (own_ident items table contexts entry, w.A
 
 -- the same, told of a rewrite
 pub record IsOwnName (items : List Item) (table : Denotations) (contexts : List (Option ℕ)) (entry : Denoted) (rewrite : Rewrite) : Type 0 where
-  pub its : told rewrite ≡ own_told items table contexts entry
+  pub its : rewrite_told rewrite ≡ own_told items table contexts entry

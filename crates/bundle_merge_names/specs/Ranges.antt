@@ -4,10 +4,10 @@ use Rattle.bundle_scope_denote.specs.declared.table.Denotations.{Denotations}
 use Rattle.bundle_scope_denote.specs.declared.table.Scope.{Scope}
 use Rattle.bundle_merge_names.specs.declared.error.MergeError.{MergeError}
 use Rattle.bundle_merge_names.specs.declared.error.MergeError.TheVariants.{ContextsUsedUp, OutOfMemory}
-use Rattle.bundle_merge_names.specs.declared.names.Names.{Names}
+use Rattle.bundle_merge_names.specs.declared.names.BundleNames.{BundleNames}
 use Rattle.bundle_merge_names.specs.declared.part.Answered.{Answered}
 use Rattle.bundle_merge_names.specs.Numbers.{AreGivenTo, is_at_top, position}
-use Rattle.bundle_merge_names.specs.Scoped.{Binds, Falls, KeepsNames}
+use Rattle.bundle_merge_names.specs.Scoped.{Binds, AreFalling, KeepsBundleNames}
 
 -- a scope of the table is one inside of which a name occurs
 pub record NeedsContext (table : Denotations) (n : ℕ) : Type 0 where
@@ -17,16 +17,16 @@ pub record NeedsContext (table : Denotations) (n : ℕ) : Type 0 where
   pub binds : Binds table.bindings.items table.occurrences.items n
 
 -- no more contexts are taken than such scopes are there
-pub record AreTaken (table : Denotations) (from to : ℕ) : Type 0 where
+pub record AreContextsTaken (table : Denotations) (from to : ℕ) : Type 0 where
   pub numbers : List ℕ
-  pub fall : Falls (NeedsContext table) (length table.scopes.items) numbers
+  pub fall : AreFalling (NeedsContext table) (length table.scopes.items) numbers
   pub count : to ≡ from + length numbers
 
 -- the scopes of a table have contexts of a range, each of which a name occurs
-pub record HasContexts (table : Denotations) (local from to : ℕ)
+pub record HasScopeContexts (table : Denotations) (local from to : ℕ)
     (contexts : List (Option ℕ)) : Type 0 where
   pub later : from ≤ to
-  pub taken : AreTaken table from to
+  pub taken : AreContextsTaken table from to
   pub given : AreGivenTo table local from to contexts
   pub all : (n : ℕ) →
       n < length table.scopes.items →
@@ -38,20 +38,21 @@ pub data RefusesContexts (table : Denotations) (from m : ℕ) : MergeError → T
   for_memory : RefusesContexts table from m OutOfMemory
   for_contexts : (n : ℕ) →
       NeedsContext table n →
-      AreTaken table from 4294967296 →
+      AreContextsTaken table from 4294967296 →
       RefusesContexts table from m (ContextsUsedUp (Some m))
 
 -- they get these, from the next one on
-pub record GivesContexts (table : Denotations) (local : ℕ) (old new : Names)
+pub record GivesScopeContexts (table : Denotations) (local : ℕ) (old new : BundleNames)
     (contexts : List (Option ℕ)) : Type 0 where
-  pub has : HasContexts table local (position old.contexts) (position new.contexts) contexts
-  pub same : KeepsNames old new
+  pub has : HasScopeContexts table local (position old.contexts) (position new.contexts) contexts
+  pub same : KeepsBundleNames old new
 
 -- the scopes of what the hook answered get these, if it answered something
-abbrev pub GivesAnswered : Option Answered → ℕ → Names → Names → List (Option ℕ) → Type 0
+abbrev pub GivesAnswered : Option Answered → ℕ → BundleNames → BundleNames → List (Option ℕ) →
+    Type 0
 GivesAnswered None local old new contexts = (contexts ≡ []) × (new ≡ old)
 GivesAnswered (Some its) local old new contexts =
-    GivesContexts its.denotations.now local old new contexts
+    GivesScopeContexts its.denotations.now local old new contexts
 
 -- or why they get none
 abbrev pub RefusesAnswered : Option Answered → (from m : ℕ) → MergeError → Type 0

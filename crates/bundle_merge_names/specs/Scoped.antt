@@ -5,7 +5,7 @@ use Rattle.bundle_scope_denote.specs.declared.table.Denoted.{Denoted}
 use Rattle.bundle_scope_denote.specs.declared.table.Scope.{Scope}
 use Rattle.bundle_merge_names.specs.declared.error.MergeError.{MergeError}
 use Rattle.bundle_merge_names.specs.declared.error.MergeError.TheVariants.{ContextsUsedUp}
-use Rattle.bundle_merge_names.specs.declared.names.Names.{Names}
+use Rattle.bundle_merge_names.specs.declared.names.BundleNames.{BundleNames}
 use Rattle.bundle_merge_names.specs.Numbers.{is_at_top, position}
 
 -- the number of the scope of a binding, if there is one
@@ -43,26 +43,26 @@ next_after false true next = suc next
 next_after _ _ next = next
 
 -- names in which nothing else changed than which contexts are free
-pub record KeepsNames (old new : Names) : Type 0 where
+pub record KeepsBundleNames (old new : BundleNames) : Type 0 where
   pub locals : new.locals ≡ old.locals
   pub scopes : new.scopes ≡ old.scopes
   pub answered : new.answered ≡ old.answered
   pub labels : new.labels ≡ old.labels
 
 -- a scope gets its context
-pub record GivesScope (top binds : Bool) (local : ℕ) (old new : Names)
+pub record GivesScope (top binds : Bool) (local : ℕ) (old new : BundleNames)
     (context : Option ℕ) : Type 0 where
   pub its : context ≡ context_for top binds local (position old.contexts)
   pub next : position new.contexts ≡ next_after top binds (position old.contexts)
-  pub same : KeepsNames old new
+  pub same : KeepsBundleNames old new
 
 -- these numbers fall from below one on, and each is one of those
-abbrev pub Falls : (ℕ → Type 0) → ℕ → List ℕ → Type 0
-Falls Its above [] = Unit {0}
-Falls Its above (n ∷ rest) = (n < above) × Its n × Falls Its n rest
+abbrev pub AreFalling : (ℕ → Type 0) → ℕ → List ℕ → Type 0
+AreFalling Its above [] = Unit {0}
+AreFalling Its above (n ∷ rest) = (n < above) × Its n × AreFalling Its n rest
 
 -- a scope is one inside that is marked
-pub record IsMarked (scopes : List Scope) (marks : List Bool) (n : ℕ) : Type 0 where
+pub record IsScopeMarked (scopes : List Scope) (marks : List Bool) (n : ℕ) : Type 0 where
   pub scope : Scope
   pub there : slice_get scopes n ≡ Some scope
   pub inner : is_at_top scope.kind ≡ false
@@ -71,11 +71,11 @@ pub record IsMarked (scopes : List Scope) (marks : List Bool) (n : ℕ) : Type 0
 -- as many contexts are taken as scopes inside are marked
 pub record AreMarkedTaken (scopes : List Scope) (marks : List Bool) (from to : ℕ) : Type 0 where
   pub numbers : List ℕ
-  pub fall : Falls (IsMarked scopes marks) (length scopes) numbers
+  pub fall : AreFalling (IsScopeMarked scopes marks) (length scopes) numbers
   pub count : to ≡ from + length numbers
 
 -- a scope inside that is marked gets no context, since none is left
-pub record RefusesScope (top binds : Bool) (m : ℕ) (old : Names)
+pub record RefusesScope (top binds : Bool) (m : ℕ) (old : BundleNames)
     (refusal : MergeError) : Type 0 where
   pub inner : top ≡ false
   pub marked : binds ≡ true

@@ -3,31 +3,31 @@
 
 ghost use Rattle.std.specs.Prelude.{◌≡◌, ◌==◌, ℕ, suc, List, Some, None, IfOk, map, option_map, slice_get, if◌then◌else◌};
 ghost use Rattle.std.specs.BTreeMap.{get_by_text};
-ghost use Rattle.bundle_tree_piece.specs.Item.{item_of};
+ghost use Rattle.bundle_syntax.specs.Item.{item_of};
 ghost use Rattle.bundle_tree_places.specs.Marks.{ident_of};
 ghost use Rattle.bundle_tree_rebuild.specs.declared.rewrite.Whole.TheVariants as wholes;
 ghost use Rattle.bundle_rules.specs.Program.{Program};
 ghost use Rattle.bundle_rules.specs.Declarations.{BySymbol};
 ghost use Rattle.bundle_rules.specs.Scopes.{ModuleKind};
-ghost use Rattle.bundle_scope_denote.specs.Listed.{IsTable};
+ghost use Rattle.bundle_scope_denote.specs.Listed.{IsDenotationTable};
 ghost use Rattle.bundle_scope_names.proofs.Numbering.{Numbering};
 ghost use Rattle.bundle_merge_names.specs.declared.names.Label.TheVariants as kinds;
-ghost use Rattle.bundle_merge_whole.specs.made.Given as given;
+ghost use Rattle.bundle_merge_theory.specs.made.Given as given;
 ghost use Rattle.bundle_merge_names.specs.Bundle.{list_of_part};
-ghost use Rattle.bundle_merge_names.specs.Body.{IsReadAs, IsRewritten, AreOwnSteps, AreSteps, called_by, is_call_at, is_use_at, past_by};
+ghost use Rattle.bundle_merge_names.specs.Body.{IsModuleReadAs, IsRewritten, AreOwnSteps, AreModuleRewrites, module_called, is_call_at, is_use_at, past_by};
 ghost use Rattle.bundle_merge_names.specs.Idents.{label_ident, object_ident, target_ident};
 ghost use Rattle.bundle_merge_names.specs.Numbers.{AreNumbersOf};
 ghost use Rattle.bundle_merge_names.specs.Own as own;
 ghost use Rattle.bundle_merge_names.specs.Own.{IsOwnName};
-ghost use Rattle.bundle_merge_whole.specs.made.Steps.{meta_ident, whole_of};
+ghost use Rattle.bundle_merge_theory.specs.made.Steps.{meta_ident, whole_of};
 
 use crate::context::GLOBAL;
-use crate::names::{Label, Names};
-use crate::part::Part;
+use crate::names::{BundleNames, Label};
+use crate::part::BundleModule;
 use bundle_link_tables::{RequireCall, Use};
 use bundle_link_targets::{Linking, Meaning};
 use bundle_scope_denote::{Binding, Denotations, Denoted};
-use bundle_tree_piece::Piece;
+use bundle_syntax::Piece;
 use bundle_tree_places::Name;
 use bundle_tree_rebuild::{Rewrite, Whole};
 use std::alloc::{AllocError, Global};
@@ -42,50 +42,50 @@ pub struct Body<'a> {
 /// What becomes of a module, where this is the list of its own items.
 pub fn body_of<'a>(
     alloc: Global,
-    part: &Part<'_, 'a>,
+    part: &BundleModule<'_, 'a>,
     pieces: &[Piece<'a>],
-    module: usize,
+    which: usize,
     linking: &Linking<'a>,
-    names: &Names<'a>,
+    names: &BundleNames<'a>,
 ) -> Result<Body<'a>, AllocError>
     requires { map item_of pieces.now ≡ list_of_part part.now }
     ensures rewrites { IfOk result (λ body.
-        (p : Program) (list : List ℕ) (context : given.Contexts) (kind : ModuleKind) →
-        IsReadAs p list context «module» kind part.now linking.now names.now →
-        AreSteps p list context «module» kind body.rewrites.items) }
+        (p : Program) (list : List ℕ) (context : given.BundleContexts) (kind : ModuleKind) →
+        IsModuleReadAs p list context which kind part.now linking.now names.now →
+        AreModuleRewrites p list context which kind body.rewrites.items) }
     ensures meta { IfOk result (λ body.
-        (p : Program) (list : List ℕ) (context : given.Contexts) (kind : ModuleKind) →
-        IsReadAs p list context «module» kind part.now linking.now names.now →
-        option_map ident_of body.meta ≡ meta_ident p list context «module») }
+        (p : Program) (list : List ℕ) (context : given.BundleContexts) (kind : ModuleKind) →
+        IsModuleReadAs p list context which kind part.now linking.now names.now →
+        option_map ident_of body.meta ≡ meta_ident p list context which) }
 {
-    let rewrites = rewrites_of(alloc, part, pieces, module, linking, names)?;
-    let meta = meta_of(part, module, names);
+    let rewrites = rewrites_of(alloc, part, pieces, which, linking, names)?;
+    let meta = meta_of(part, which, names);
     Ok(Body { rewrites, meta })
 }
 
 // What becomes of the occurrences of a module, in turn.
 fn rewrites_of<'a>(
     alloc: Global,
-    part: &Part<'_, 'a>,
+    part: &BundleModule<'_, 'a>,
     pieces: &[Piece<'a>],
-    module: usize,
+    which: usize,
     linking: &Linking<'a>,
-    names: &Names<'a>,
+    names: &BundleNames<'a>,
 ) -> Result<Vec<Rewrite<'a>>, AllocError>
     requires { map item_of pieces.now ≡ list_of_part part.now }
     ensures { IfOk result (λ rewrites.
-        (p : Program) (list : List ℕ) (context : given.Contexts) (kind : ModuleKind) →
-        IsReadAs p list context «module» kind part.now linking.now names.now →
-        AreSteps p list context «module» kind rewrites.items) }
+        (p : Program) (list : List ℕ) (context : given.BundleContexts) (kind : ModuleKind) →
+        IsModuleReadAs p list context which kind part.now linking.now names.now →
+        AreModuleRewrites p list context which kind rewrites.items) }
 {
-    let scopes = names.scopes(module);
+    let scopes = names.scopes(which);
     let mut rewrites = Vec::new(alloc);
     let mut uses = 0;
     let mut calls = 0;
     for occurrence in &part.denotations.occurrences {
         let place = occurrence.place;
         let own = own_of(pieces, part.denotations, scopes, occurrence);
-        rewrites.push(rewrite_of(part, module, linking, names, uses, calls, place, own))?;
+        rewrites.push(rewrite_of(part, which, linking, names, uses, calls, place, own))?;
         uses = uses_past(&part.tables.uses, uses, place);
         calls = calls_past(&part.tables.calls, calls, place);
     }
@@ -95,24 +95,24 @@ fn rewrites_of<'a>(
 // What becomes of the occurrence at a place, behind so many uses and calls, whose own name is told: a use that means
 // something becomes that, and the name of a literal call that leads to a module becomes its load function.
 fn rewrite_of<'a>(
-    part: &Part<'_, 'a>,
-    module: usize,
+    part: &BundleModule<'_, 'a>,
+    which: usize,
     linking: &Linking<'a>,
-    names: &Names<'a>,
+    names: &BundleNames<'a>,
     uses: usize,
     calls: usize,
     place: usize,
     own: Rewrite<'a>,
 ) -> Rewrite<'a>
-    ensures { IsRewritten part.now «module» linking.now names.now uses calls place own.entry result }
+    ensures { IsRewritten part.now which linking.now names.now uses calls place own.entry result }
 {
     if is_use(&part.tables.uses, uses, place) {
-        if let Some(meaning) = linking.meaning(module, uses) {
+        if let Some(meaning) = linking.meaning(which, uses) {
             return meant(names, meaning);
         }
     }
     match called(part, calls, place) {
-        Some(module) => load(names, module),
+        Some(which) => load(names, which),
         None => own,
     }
 }
@@ -148,8 +148,8 @@ fn calls_past(calls: &[RequireCall<'_>], number: usize, place: usize) -> usize
 }
 
 // The module to which the call with this number leads, if its name stands at a place.
-fn called(part: &Part<'_, '_>, number: usize, place: usize) -> Option<usize>
-    ensures { result ≡ called_by (get_by_text part.now.leads.now) place
+fn called(part: &BundleModule<'_, '_>, number: usize, place: usize) -> Option<usize>
+    ensures { result ≡ module_called (get_by_text part.now.leads.now) place
         (slice_get part.now.tables.now.calls.items number) }
 {
     match part.tables.calls.get(number) {
@@ -167,10 +167,14 @@ fn is_next(place: usize, other: usize) -> bool
 
 // The name of the object for `import.meta` in a module, if it has one: that of the statement which holds it already, or
 // the one that it was given.
-fn meta_of<'a>(part: &Part<'_, 'a>, module: usize, names: &Names<'a>) -> Option<Name<'a>>
+fn meta_of<'a>(
+    part: &BundleModule<'_, 'a>,
+    which: usize,
+    names: &BundleNames<'a>,
+) -> Option<Name<'a>>
     ensures { option_map ident_of result
         ≡ (if part.now.tables.now.has_import_meta
-        then Some (object_ident names.now part.now.written «module»)
+        then Some (object_ident names.now part.now.written which)
         else None) }
 {
     if !part.tables.has_import_meta {
@@ -178,7 +182,7 @@ fn meta_of<'a>(part: &Part<'_, 'a>, module: usize, names: &Names<'a>) -> Option<
     }
     match part.written {
         Some(name) => Some(name),
-        None => Some(names.of(Label::Meta { module })),
+        None => Some(names.of(Label::Meta { which })),
     }
 }
 
@@ -192,7 +196,7 @@ pub fn own_names<'h>(
 ) -> Result<Vec<Rewrite<'h>>, AllocError>
     ensures { IfOk result (λ rewrites.
         (kind : ModuleKind) (g : Numbering) →
-        IsTable BySymbol kind (map item_of pieces.now) denotations.now →
+        IsDenotationTable BySymbol kind (map item_of pieces.now) denotations.now →
         AreNumbersOf kind (map item_of pieces.now) denotations.now g scopes.now →
         AreOwnSteps kind (map item_of pieces.now) g rewrites.items) }
 {
@@ -206,7 +210,7 @@ fn own_rewrites<'h>(
     denotations: &Denotations<'h>,
     scopes: &[Option<u32>],
 ) -> Result<Vec<Rewrite<'h>>, AllocError>
-    ensures { IfOk result (λ rewrites. map own.told rewrites.items
+    ensures { IfOk result (λ rewrites. map own.rewrite_told rewrites.items
         ≡ map (own.own_told (map item_of pieces.now) denotations.now scopes.now)
         denotations.now.occurrences.items) }
 {
@@ -236,7 +240,7 @@ fn own_name<'h>(
     scopes: &[Option<u32>],
     occurrence: &Denoted,
 ) -> Rewrite<'h>
-    ensures { own.told result
+    ensures { own.rewrite_told result
         ≡ own.own_told (map item_of pieces.now) denotations.now scopes.now occurrence.now }
 {
     let sym = symbol_at(pieces, occurrence.place);
@@ -246,7 +250,7 @@ fn own_name<'h>(
 
 // An occurrence becomes this name, which stands for no more.
 fn alone<'a>(name: Name<'a>) -> Rewrite<'a>
-    ensures { own.told result ≡ (ident_of name.entry, wholes.Alone) }
+    ensures { own.rewrite_told result ≡ (ident_of name.entry, wholes.Alone) }
 {
     let whole = Whole::Alone;
     Rewrite { name, whole }
@@ -281,7 +285,7 @@ fn context_at(scopes: &[Option<u32>], scope: usize) -> u32
 
 // The symbol of the identifier at a place.
 fn symbol_at<'a>(pieces: &[Piece<'a>], place: usize) -> &'a str
-    ensures { result.now ≡ own.symbol_by (slice_get (map item_of pieces.now) place) }
+    ensures { result.now ≡ own.ident_symbol (slice_get (map item_of pieces.now) place) }
 {
     match pieces.get(place) {
         Some(Piece::Ident { sym, .. }) => *sym,
@@ -290,8 +294,8 @@ fn symbol_at<'a>(pieces: &[Piece<'a>], place: usize) -> &'a str
 }
 
 // A use becomes the name of what it means, in place of the reads around it by which it means that.
-fn meant<'a>(names: &Names<'a>, meaning: Meaning<'a>) -> Rewrite<'a>
-    ensures { own.told result
+fn meant<'a>(names: &BundleNames<'a>, meaning: Meaning<'a>) -> Rewrite<'a>
+    ensures { own.rewrite_told result
         ≡ (target_ident names.now meaning.entry.target, whole_of meaning.entry.steps) }
 {
     let name = names.target(meaning.target);
@@ -310,10 +314,10 @@ fn whole_by(steps: usize) -> Whole
 }
 
 // The name of a literal call of `require` becomes that of the module's load function, and the call one of it.
-fn load<'a>(names: &Names<'a>, module: usize) -> Rewrite<'a>
-    ensures { own.told result ≡ (label_ident names.now (kinds.Load «module»), wholes.Call) }
+fn load<'a>(names: &BundleNames<'a>, which: usize) -> Rewrite<'a>
+    ensures { own.rewrite_told result ≡ (label_ident names.now (kinds.Load which), wholes.Call) }
 {
-    let name = names.of(Label::Load { module });
+    let name = names.of(Label::Load { which });
     let whole = Whole::Call;
     Rewrite { name, whole }
 }

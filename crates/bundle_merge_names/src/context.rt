@@ -12,26 +12,26 @@ pub const GLOBAL: u32 = 1;
 
 /// The numbers of contexts from the next one on.
 #[derive(Clone, Copy, PartialEq, Eq, Debug)]
-pub struct Contexts {
+pub struct FreshContexts {
     next: Option<u32>,
 }
 
-impl Contexts {
+impl FreshContexts {
     /// The contexts above those of so many files, each of which has two.
-    pub fn above(files: usize) -> Contexts
+    pub fn above(files: usize) -> FreshContexts
         ensures next { IfSome result.next (λ next. next ≡ files * 2 + 2) }
         ensures none { IfNone result.next (4294967295 < files * 2 + 2) }
     {
-        Contexts {
+        FreshContexts {
             next: first_above(files),
         }
     }
 
     /// The contexts from this one on.
-    pub fn from_next(next: u32) -> Contexts
+    pub fn from_next(next: u32) -> FreshContexts
         ensures { result.next ≡ Some next }
     {
-        Contexts { next: Some(next) }
+        FreshContexts { next: Some(next) }
     }
 
     /// The next context, if there is one.
@@ -42,16 +42,16 @@ impl Contexts {
     }
 
     /// The next context, for a name of a module or, without one, of the linker's own.
-    pub fn take(&mut self, module: Option<usize>) -> Result<u32, MergeError>
+    pub fn take(&mut self, which: Option<usize>) -> Result<u32, MergeError>
         ensures taken { IfOk result (λ context. context ≡ position self.old) }
         ensures next { IfOk result (λ context. position self.new ≡ suc context) }
-        ensures refused { IfErr result (λ refusal. refusal ≡ ContextsUsedUp «module») }
+        ensures refused { IfErr result (λ refusal. refusal ≡ ContextsUsedUp which) }
         ensures none { IfErr result (λ refusal. self.old.next ≡ None) }
         ensures kept { IfErr result (λ refusal. self.new ≡ self.old) }
     {
         let next = self.next;
         let Some(context) = next else {
-            return Err(MergeError::ContextsUsedUp { module });
+            return Err(MergeError::ContextsUsedUp { which });
         };
         self.next = after(context);
         Ok(context)

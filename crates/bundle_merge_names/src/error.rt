@@ -7,7 +7,7 @@ use std::alloc::{AllocError, AllocFailed};
 pub enum MergeError {
     /// The next context would be above 4294967295. `module` is the number of the module whose names get it; there
     /// is none where the linker's own names do.
-    ContextsUsedUp { module: Option<usize> },
+    ContextsUsedUp { which: Option<usize> },
     /// A growth was refused.
     OutOfMemory,
 }

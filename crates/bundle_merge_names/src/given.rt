@@ -13,22 +13,22 @@ ghost use Rattle.bundle_link_tables.specs.TablesOf.{taken_of};
 ghost use Rattle.bundle_link_targets.specs.Linked.{HandsOver, IsLinkingOf};
 ghost use Rattle.bundle_link_targets.specs.Meant.{AreModules};
 ghost use Rattle.bundle_link_targets.specs.Symbols.{IsTakable};
-ghost use Rattle.bundle_merge_names.specs.Added.{AddsNames, IsNamedOf, IsOfExternals, IsOfHelper, IsOfHelpers, IsOfLabels, IsOfLoads, IsOfModule, IsOfModules, IsTakenOf, IsWhere, IsWholeOf, RefusesLabels, with_taken};
+ghost use Rattle.bundle_merge_names.specs.Added.{GivesNames, IsNamedOf, IsOfExternals, IsOfHelper, IsOfHelpers, IsOfLabels, IsOfLoads, IsOfModule, IsOfModules, IsTakenOf, IsWhere, IsWholeOf, RefusesLabels, with_taken};
 ghost use Rattle.bundle_merge_names.specs.Bundle.{AreBundleParts, AreNamesOf, IsPartOf};
-ghost use Rattle.bundle_merge_whole.specs.made.Given.{Answer, Contexts, NameOf, stands_written};
-ghost use Rattle.bundle_merge_whole.specs.made.Alone.{IsHolder};
-ghost use Rattle.bundle_merge_names.specs.Inside.{AreScopesNamed, GivesModule, HoldsNothing, RefusesModule, answer_of};
+ghost use Rattle.bundle_merge_theory.specs.made.Given.{HookAnswer, BundleContexts, NameOf, stands_written};
+ghost use Rattle.bundle_merge_theory.specs.made.Alone.{IsHolder};
+ghost use Rattle.bundle_merge_names.specs.Inside.{AreScopesNamed, AddsModule, HoldsNothing, RefusesModule, answer_of};
 ghost use Rattle.bundle_merge_names.specs.Named.{IsGiven};
 ghost use Rattle.bundle_merge_names.specs.Numbers as numbers;
-ghost use Rattle.bundle_merge_names.specs.Ranges.{GivesAnswered, GivesContexts, RefusesAnswered, RefusesContexts};
+ghost use Rattle.bundle_merge_names.specs.Ranges.{GivesAnswered, GivesScopeContexts, RefusesAnswered, RefusesContexts};
 ghost use Rattle.bundle_merge_names.specs.Refused.{RefusesContextsIn, RefusesNames, TakesFew};
 ghost use Rattle.bundle_merge_names.specs.Scoped.{AreMarks, GivesScope, RefusesScope, flag_in, scope_number};
 
 use crate::error::MergeError;
-use crate::names::{Label, Names};
-use crate::part::{BundleParts, Part};
+use crate::names::{BundleNames, Label};
+use crate::part::{BundleInput, BundleModule};
 use bundle_link_tables::Taken;
-use bundle_link_targets::{External, Linking, Loaded, Target};
+use bundle_link_targets::{External, Linking, Loaded, TargetRef};
 use bundle_scope_denote::{Denotations, Scope, ScopeKind};
 use std::alloc::{AllocError, Global};
 
@@ -36,23 +36,23 @@ use std::alloc::{AllocError, Global};
 /// memory.
 pub fn names_of<'a>(
     alloc: Global,
-    bundle: &BundleParts<'_, 'a, '_>,
-) -> Result<Names<'a>, MergeError>
+    bundle: &BundleInput<'_, 'a, '_>,
+) -> Result<BundleNames<'a>, MergeError>
     ensures named { IfOk result (λ names.
-        (p : Program) (list : List ℕ) (answers : ℕ → Option Answer) →
+        (p : Program) (list : List ℕ) (answers : ℕ → Option HookAnswer) →
         AreBundleParts p list answers bundle.now →
-        (context : Contexts) × AreNamesOf p list answers context bundle.now names) }
+        (context : BundleContexts) × AreNamesOf p list answers context bundle.now names) }
     ensures few { IfOk result (λ names.
-        (p : Program) (list : List ℕ) (answers : ℕ → Option Answer) →
+        (p : Program) (list : List ℕ) (answers : ℕ → Option HookAnswer) →
         AreBundleParts p list answers bundle.now →
         TakesFew p list answers (numbers.position bundle.now.contexts)
         (numbers.position names.contexts)) }
     ensures refused { IfErr result (λ refusal.
-        (p : Program) (list : List ℕ) (answers : ℕ → Option Answer) →
+        (p : Program) (list : List ℕ) (answers : ℕ → Option HookAnswer) →
         AreBundleParts p list answers bundle.now →
         RefusesNames p list answers (numbers.position bundle.now.contexts) refusal) }
 {
-    let mut names = Names::new(alloc, bundle.contexts);
+    let mut names = BundleNames::new(alloc, bundle.contexts);
     give_names(alloc, &mut names, bundle)?;
     Ok(names)
 }
@@ -60,21 +60,21 @@ pub fn names_of<'a>(
 // Gives all names: first those of scopes, module by module, and then those of labels.
 fn give_names<'a>(
     alloc: Global,
-    names: &mut Names<'a>,
-    bundle: &BundleParts<'_, 'a, '_>,
+    names: &mut BundleNames<'a>,
+    bundle: &BundleInput<'_, 'a, '_>,
 ) -> Result<(), MergeError>
     ensures given { OnOk result (HoldsNothing bundle.now names.old →
-        (p : Program) (list : List ℕ) (answers : ℕ → Option Answer) →
+        (p : Program) (list : List ℕ) (answers : ℕ → Option HookAnswer) →
         AreBundleParts p list answers bundle.now →
-        (context : Contexts) × AreNamesOf p list answers context bundle.now names.new) }
+        (context : BundleContexts) × AreNamesOf p list answers context bundle.now names.new) }
     ensures few { OnOk result (HoldsNothing bundle.now names.old →
-        (p : Program) (list : List ℕ) (answers : ℕ → Option Answer) →
+        (p : Program) (list : List ℕ) (answers : ℕ → Option HookAnswer) →
         AreBundleParts p list answers bundle.now →
         TakesFew p list answers (numbers.position bundle.now.contexts)
         (numbers.position names.new.contexts)) }
     ensures refused { IfErr result (λ refusal.
         HoldsNothing bundle.now names.old →
-        (p : Program) (list : List ℕ) (answers : ℕ → Option Answer) →
+        (p : Program) (list : List ℕ) (answers : ℕ → Option HookAnswer) →
         AreBundleParts p list answers bundle.now →
         RefusesNames p list answers (numbers.position bundle.now.contexts) refusal) }
 {
@@ -85,15 +85,15 @@ fn give_names<'a>(
 // Gives contexts to the scopes of the modules and of what the hook answered for them, module by module.
 fn give_contexts<'a>(
     alloc: Global,
-    names: &mut Names<'a>,
-    bundle: &BundleParts<'_, 'a, '_>,
+    names: &mut BundleNames<'a>,
+    bundle: &BundleInput<'_, 'a, '_>,
 ) -> Result<(), MergeError>
     ensures scopes { OnOk result (HoldsNothing bundle.now names.old →
         AreScopesNamed bundle.now names.new (length bundle.now.parts.now)) }
     ensures labels { OnOk result (names.new.labels ≡ names.old.labels) }
     ensures refused { IfErr result (λ refusal.
         HoldsNothing bundle.now names.old →
-        (p : Program) (list : List ℕ) (answers : ℕ → Option Answer) →
+        (p : Program) (list : List ℕ) (answers : ℕ → Option HookAnswer) →
         AreBundleParts p list answers bundle.now →
         RefusesContextsIn p list answers (numbers.position bundle.now.contexts) refusal) }
 {
@@ -106,20 +106,20 @@ fn give_contexts<'a>(
 // Gives contexts to the scopes of a module and of what the hook answered for it.
 fn give_scopes<'a>(
     alloc: Global,
-    names: &mut Names<'a>,
-    bundle: &BundleParts<'_, 'a, '_>,
-    module: usize,
-    part: &Part<'_, 'a>,
+    names: &mut BundleNames<'a>,
+    bundle: &BundleInput<'_, 'a, '_>,
+    which: usize,
+    part: &BundleModule<'_, 'a>,
 ) -> Result<(), MergeError>
     ensures given { OnOk result
-        (GivesModule part.now.denotations.now (answer_of bundle.now «module») part.now.local
+        (AddsModule part.now.denotations.now (answer_of bundle.now which) part.now.local
         names.old names.new) }
     ensures refused { IfErr result (λ refusal.
-        RefusesModule part.now.denotations.now (answer_of bundle.now «module»)
-        (numbers.position names.old.contexts) «module» refusal) }
+        RefusesModule part.now.denotations.now (answer_of bundle.now which)
+        (numbers.position names.old.contexts) which refusal) }
 {
-    let scopes = scope_contexts(alloc, names, module, part.denotations, part.local)?;
-    let answered = answer_contexts(alloc, names, bundle, module, part.local)?;
+    let scopes = scope_contexts(alloc, names, which, part.denotations, part.local)?;
+    let answered = answer_contexts(alloc, names, bundle, which, part.local)?;
     names.add_module(part.local, scopes, answered)?;
     Ok(())
 }
@@ -127,20 +127,20 @@ fn give_scopes<'a>(
 // Contexts for the scopes of what the hook answered for a module.
 fn answer_contexts<'a>(
     alloc: Global,
-    names: &mut Names<'a>,
-    bundle: &BundleParts<'_, 'a, '_>,
-    module: usize,
+    names: &mut BundleNames<'a>,
+    bundle: &BundleInput<'_, 'a, '_>,
+    which: usize,
     local: u32,
 ) -> Result<Vec<Option<u32>>, MergeError>
     ensures given { IfOk result (λ contexts.
-        GivesAnswered (answer_of bundle.now «module») local
+        GivesAnswered (answer_of bundle.now which) local
         names.old names.new contexts.items) }
     ensures refused { IfErr result (λ refusal.
-        RefusesAnswered (answer_of bundle.now «module») (numbers.position names.old.contexts)
-        «module» refusal) }
+        RefusesAnswered (answer_of bundle.now which) (numbers.position names.old.contexts)
+        which refusal) }
 {
-    match bundle.answer(module) {
-        Some(answer) => scope_contexts(alloc, names, module, answer.denotations, local),
+    match bundle.answer(which) {
+        Some(answer) => scope_contexts(alloc, names, which, answer.denotations, local),
         None => Ok(Vec::new(alloc)),
     }
 }
@@ -149,21 +149,21 @@ fn answer_contexts<'a>(
 // for each other.
 fn scope_contexts(
     alloc: Global,
-    names: &mut Names<'_>,
-    module: usize,
+    names: &mut BundleNames<'_>,
+    which: usize,
     denotations: &Denotations<'_>,
     local: u32,
 ) -> Result<Vec<Option<u32>>, MergeError>
     ensures given { IfOk result (λ contexts.
-        GivesContexts denotations.now local names.old names.new contexts.items) }
+        GivesScopeContexts denotations.now local names.old names.new contexts.items) }
     ensures refused { IfErr result (λ refusal.
-        RefusesContexts denotations.now (numbers.position names.old.contexts) «module» refusal) }
+        RefusesContexts denotations.now (numbers.position names.old.contexts) which refusal) }
 {
     let marks = marks_of(alloc, denotations)?;
     let mut contexts = Vec::new(alloc);
     for scope in &denotations.scopes {
         let binds = flag_at(&marks, contexts.len());
-        contexts.push(context_of(names, module, *scope, binds, local)?)?;
+        contexts.push(context_of(names, which, *scope, binds, local)?)?;
     }
     Ok(contexts)
 }
@@ -230,8 +230,8 @@ fn flag_at(flags: &[bool], place: usize) -> bool
 
 // The context of a scope, if it binds something.
 fn context_of(
-    names: &mut Names<'_>,
-    module: usize,
+    names: &mut BundleNames<'_>,
+    which: usize,
     scope: Scope,
     binds: bool,
     local: u32,
@@ -239,7 +239,7 @@ fn context_of(
     ensures given { IfOk result (λ context.
         GivesScope (numbers.is_at_top scope.kind) binds local names.old names.new context) }
     ensures refused { IfErr result (λ refusal.
-        RefusesScope (numbers.is_at_top scope.kind) binds «module» names.old refusal) }
+        RefusesScope (numbers.is_at_top scope.kind) binds which names.old refusal) }
 {
     if is_at_top(scope) {
         return Ok(Some(local));
@@ -247,7 +247,7 @@ fn context_of(
     if !binds {
         return Ok(None);
     }
-    Ok(Some(names.take(module)?))
+    Ok(Some(names.take(which)?))
 }
 
 // Whether a scope is the top of a module, or the function as which a CommonJS module is read.
@@ -262,15 +262,15 @@ fn is_at_top(scope: Scope) -> bool
 
 // Gives names to what is imported of externals, to the helper, and to what the modules need.
 fn give_labels<'a>(
-    names: &mut Names<'a>,
-    bundle: &BundleParts<'_, 'a, '_>,
+    names: &mut BundleNames<'a>,
+    bundle: &BundleInput<'_, 'a, '_>,
 ) -> Result<(), MergeError>
-    ensures given { OnOk result ((p : Program) (list : List ℕ) (answers : ℕ → Option Answer) →
+    ensures given { OnOk result ((p : Program) (list : List ℕ) (answers : ℕ → Option HookAnswer) →
         AreBundleParts p list answers bundle.now →
-        AddsNames p list (IsGiven (λ m. stands_written (answers m)) (IsHolder p answers))
+        GivesNames p list (IsGiven (λ m. stands_written (answers m)) (IsHolder p answers))
         names.old names.new) }
     ensures refused { IfErr result (λ refusal.
-        (p : Program) (list : List ℕ) (answers : ℕ → Option Answer) →
+        (p : Program) (list : List ℕ) (answers : ℕ → Option HookAnswer) →
         AreBundleParts p list answers bundle.now →
         RefusesLabels (IsGiven (λ m. stands_written (answers m)) (IsOfLabels p list))
         names.old refusal) }
@@ -281,11 +281,11 @@ fn give_labels<'a>(
 }
 
 // Gives names to what is meant of externals.
-fn give_externals<'a>(names: &mut Names<'a>, linking: &Linking<'a>) -> Result<(), MergeError>
+fn give_externals<'a>(names: &mut BundleNames<'a>, linking: &Linking<'a>) -> Result<(), MergeError>
     ensures given { OnOk result ((p : Program) (list : List ℕ) →
         HandsOver p list linking.now →
         AreModules p →
-        AddsNames p list (IsOfExternals p list) names.old names.new) }
+        GivesNames p list (IsOfExternals p list) names.old names.new) }
     ensures refused { IfErr result (λ refusal. (p : Program) (list : List ℕ) →
         HandsOver p list linking.now →
         AreModules p →
@@ -299,14 +299,14 @@ fn give_externals<'a>(names: &mut Names<'a>, linking: &Linking<'a>) -> Result<()
 
 // Gives names to what is meant of an external.
 fn give_external<'a>(
-    names: &mut Names<'a>,
+    names: &mut BundleNames<'a>,
     linking: &Linking<'a>,
     external: &External<'a>,
 ) -> Result<(), MergeError>
     ensures given { OnOk result ((p : Program) (list : List ℕ) →
         HandsOver p list linking.now →
         IsTakable p (links.External external.now.specifier.now entries.Whole) →
-        AddsNames p list
+        GivesNames p list
         (IsTakenOf (links.External external.now.specifier.now entries.Whole)
         (map (λ name. name.now) external.now.names.items) external.now.whole)
         names.old names.new) }
@@ -318,7 +318,7 @@ fn give_external<'a>(
         (map (λ name. name.now) external.now.names.items) external.now.whole)
         names.old refusal) }
 {
-    let base = Target::External {
+    let base = TargetRef::External {
         specifier: external.specifier,
         taken: Taken::Whole,
     };
@@ -327,16 +327,16 @@ fn give_external<'a>(
 
 // Gives names to these names and to the whole, if it is taken, of what a target is taken of.
 fn give_taken<'a>(
-    names: &mut Names<'a>,
+    names: &mut BundleNames<'a>,
     linking: &Linking<'a>,
-    base: Target<'a>,
+    base: TargetRef<'a>,
     its: &[&'a str],
     whole: bool,
 ) -> Result<(), MergeError>
     ensures given { OnOk result ((p : Program) (list : List ℕ) →
         HandsOver p list linking.now →
         IsTakable p (target_of base.entry) →
-        AddsNames p list
+        GivesNames p list
         (IsTakenOf (target_of base.entry) (map (λ name. name.now) its.now) whole)
         names.old names.new) }
     ensures refused { IfErr result (λ refusal. (p : Program) (list : List ℕ) →
@@ -353,15 +353,15 @@ fn give_taken<'a>(
 
 // Gives names to these names of what a target is taken of.
 fn give_named<'a>(
-    names: &mut Names<'a>,
+    names: &mut BundleNames<'a>,
     linking: &Linking<'a>,
-    base: Target<'a>,
+    base: TargetRef<'a>,
     its: &[&'a str],
 ) -> Result<(), MergeError>
     ensures given { OnOk result ((p : Program) (list : List ℕ) →
         HandsOver p list linking.now →
         IsTakable p (target_of base.entry) →
-        AddsNames p list (IsNamedOf (target_of base.entry) its.now) names.old names.new) }
+        GivesNames p list (IsNamedOf (target_of base.entry) its.now) names.old names.new) }
     ensures refused { IfErr result (λ refusal. (p : Program) (list : List ℕ) →
         HandsOver p list linking.now →
         IsTakable p (target_of base.entry) →
@@ -375,15 +375,15 @@ fn give_named<'a>(
 
 // Gives a name to the whole of what a target is taken of, if it is taken.
 fn give_whole<'a>(
-    names: &mut Names<'a>,
+    names: &mut BundleNames<'a>,
     linking: &Linking<'a>,
-    base: Target<'a>,
+    base: TargetRef<'a>,
     whole: bool,
 ) -> Result<(), MergeError>
     ensures given { OnOk result ((p : Program) (list : List ℕ) →
         HandsOver p list linking.now →
         IsTakable p (target_of base.entry) →
-        AddsNames p list (IsWholeOf (target_of base.entry) whole) names.old names.new) }
+        GivesNames p list (IsWholeOf (target_of base.entry) whole) names.old names.new) }
     ensures refused { IfErr result
         (RefusesLabels (IsWholeOf (target_of base.entry) whole) names.old) }
 {
@@ -394,31 +394,31 @@ fn give_whole<'a>(
 }
 
 // The target that is taken so of what another is taken of.
-fn taking<'a>(base: Target<'a>, taken: Taken<'a>) -> Target<'a>
+fn taking<'a>(base: TargetRef<'a>, taken: Taken<'a>) -> TargetRef<'a>
     ensures { target_of result ≡ with_taken (target_of base.entry) (taken_of taken.entry) }
 {
     match base {
-        Target::External { specifier, .. } => Target::External { specifier, taken },
-        Target::CommonJs { taker, module, .. } => Target::CommonJs {
+        TargetRef::External { specifier, .. } => TargetRef::External { specifier, taken },
+        TargetRef::CommonJs { taker, which, .. } => TargetRef::CommonJs {
             taker,
-            module,
+            which,
             taken,
         },
-        Target::Declared { .. } => base,
-        Target::Namespace { .. } => base,
+        TargetRef::Declared { .. } => base,
+        TargetRef::Namespace { .. } => base,
     }
 }
 
 // Gives a name to a target, called as its modules call it.
 fn give_target<'a>(
-    names: &mut Names<'a>,
+    names: &mut BundleNames<'a>,
     linking: &Linking<'a>,
-    target: Target<'a>,
+    target: TargetRef<'a>,
 ) -> Result<(), MergeError>
     ensures given { OnOk result ((p : Program) (list : List ℕ) →
         HandsOver p list linking.now →
         IsTakable p (target_of target.entry) →
-        AddsNames p list (λ holder. holder ≡ NameOf (meaning.Of (target_of target.entry)))
+        GivesNames p list (λ holder. holder ≡ NameOf (meaning.Of (target_of target.entry)))
         names.old names.new) }
     ensures refused { IfErr result
         (RefusesLabels (λ holder. holder ≡ NameOf (meaning.Of (target_of target.entry)))
@@ -428,12 +428,15 @@ fn give_target<'a>(
 }
 
 // Gives names to the helper, its parameter and its variable, if some module is CommonJS.
-fn give_helpers(names: &mut Names<'_>, bundle: &BundleParts<'_, '_, '_>) -> Result<(), MergeError>
-    ensures given { OnOk result ((p : Program) (list : List ℕ) (answers : ℕ → Option Answer) →
+fn give_helpers(
+    names: &mut BundleNames<'_>,
+    bundle: &BundleInput<'_, '_, '_>,
+) -> Result<(), MergeError>
+    ensures given { OnOk result ((p : Program) (list : List ℕ) (answers : ℕ → Option HookAnswer) →
         AreBundleParts p list answers bundle.now →
-        AddsNames p list (IsOfHelpers p) names.old names.new) }
+        GivesNames p list (IsOfHelpers p) names.old names.new) }
     ensures refused { IfErr result (λ refusal.
-        (p : Program) (list : List ℕ) (answers : ℕ → Option Answer) →
+        (p : Program) (list : List ℕ) (answers : ℕ → Option HookAnswer) →
         AreBundleParts p list answers bundle.now →
         RefusesLabels (IsOfHelpers p) names.old refusal) }
 {
@@ -444,9 +447,9 @@ fn give_helpers(names: &mut Names<'_>, bundle: &BundleParts<'_, '_, '_>) -> Resu
 }
 
 // Gives names to the helper, its parameter and its variable.
-fn give_helper(names: &mut Names<'_>) -> Result<(), MergeError>
+fn give_helper(names: &mut BundleNames<'_>) -> Result<(), MergeError>
     ensures given { OnOk result ((p : Program) (list : List ℕ) →
-        AddsNames p list IsOfHelper names.old names.new) }
+        GivesNames p list IsOfHelper names.old names.new) }
     ensures refused { IfErr result (RefusesLabels IsOfHelper names.old) }
 {
     names.give(Label::Helper, "__swcpack_require__")?;
@@ -457,15 +460,15 @@ fn give_helper(names: &mut Names<'_>) -> Result<(), MergeError>
 
 // Gives names to what the modules need.
 fn give_modules<'a>(
-    names: &mut Names<'a>,
-    bundle: &BundleParts<'_, 'a, '_>,
+    names: &mut BundleNames<'a>,
+    bundle: &BundleInput<'_, 'a, '_>,
 ) -> Result<(), MergeError>
-    ensures given { OnOk result ((p : Program) (list : List ℕ) (answers : ℕ → Option Answer) →
+    ensures given { OnOk result ((p : Program) (list : List ℕ) (answers : ℕ → Option HookAnswer) →
         AreBundleParts p list answers bundle.now →
-        AddsNames p list (IsGiven (λ m. stands_written (answers m)) (IsOfModules p))
+        GivesNames p list (IsGiven (λ m. stands_written (answers m)) (IsOfModules p))
         names.old names.new) }
     ensures refused { IfErr result (λ refusal.
-        (p : Program) (list : List ℕ) (answers : ℕ → Option Answer) →
+        (p : Program) (list : List ℕ) (answers : ℕ → Option HookAnswer) →
         AreBundleParts p list answers bundle.now →
         RefusesLabels (IsGiven (λ m. stands_written (answers m)) (IsOfModules p))
         names.old refusal) }
@@ -479,65 +482,73 @@ fn give_modules<'a>(
 // Gives names to what a module needs: its load function, the object for its `import.meta`, what is taken of the CommonJS
 // modules that it loads, and the object of its namespace.
 fn give_module<'a>(
-    names: &mut Names<'a>,
+    names: &mut BundleNames<'a>,
     linking: &Linking<'a>,
-    module: usize,
-    part: &Part<'_, 'a>,
+    which: usize,
+    part: &BundleModule<'_, 'a>,
 ) -> Result<(), MergeError>
     ensures given { OnOk result ((p : Program) (list : List ℕ) (written : ℕ → Bool) →
         IsLinkingOf p linking.now →
         HandsOver p list linking.now →
         AreModules p →
-        IsReached p «module» →
-        IsPartOf p «module» part.now →
-        is_some part.now.written ≡ written «module» →
-        AddsNames p list (IsGiven written (IsOfModule p «module»)) names.old names.new) }
+        IsReached p which →
+        IsPartOf p which part.now →
+        is_some part.now.written ≡ written which →
+        GivesNames p list (IsGiven written (IsOfModule p which)) names.old names.new) }
     ensures refused { IfErr result (λ refusal.
         (p : Program) (list : List ℕ) (written : ℕ → Bool) →
         IsLinkingOf p linking.now →
         HandsOver p list linking.now →
         AreModules p →
-        IsReached p «module» →
-        IsPartOf p «module» part.now →
-        is_some part.now.written ≡ written «module» →
-        RefusesLabels (IsGiven written (IsOfModule p «module»)) names.old refusal) }
+        IsReached p which →
+        IsPartOf p which part.now →
+        is_some part.now.written ≡ written which →
+        RefusesLabels (IsGiven written (IsOfModule p which)) names.old refusal) }
 {
-    give_load(names, linking, module)?;
-    give_meta(names, module, part)?;
-    give_loads(names, linking, module)?;
-    give_namespace(names, linking, module)
+    give_load(names, linking, which)?;
+    give_meta(names, which, part)?;
+    give_loads(names, linking, which)?;
+    give_namespace(names, linking, which)
 }
 
 // Gives a name to the load function of a module, if it is CommonJS.
-fn give_load(names: &mut Names<'_>, linking: &Linking<'_>, module: usize) -> Result<(), MergeError>
+fn give_load(
+    names: &mut BundleNames<'_>,
+    linking: &Linking<'_>,
+    which: usize,
+) -> Result<(), MergeError>
     ensures given { OnOk result ((p : Program) (list : List ℕ) →
         IsLinkingOf p linking.now →
-        AddsNames p list (IsWhere (IsCommonJs p «module») (NameOf (meaning.Load «module»)))
+        GivesNames p list (IsWhere (IsCommonJs p which) (NameOf (meaning.Load which)))
         names.old names.new) }
     ensures refused { IfErr result (λ refusal. (p : Program) →
         IsLinkingOf p linking.now →
-        RefusesLabels (IsWhere (IsCommonJs p «module») (NameOf (meaning.Load «module»)))
+        RefusesLabels (IsWhere (IsCommonJs p which) (NameOf (meaning.Load which)))
         names.old refusal) }
 {
-    if !linking.is_common_js(module) {
+    if !linking.is_common_js(which) {
         return Ok(());
     }
-    names.give(Label::Load { module }, "load")
+    names.give(Label::Load { which }, "load")
 }
 
 // Gives a name to the object for the `import.meta` of a module, if it has that, and no statement holds it already.
-fn give_meta(names: &mut Names<'_>, module: usize, part: &Part<'_, '_>) -> Result<(), MergeError>
+fn give_meta(
+    names: &mut BundleNames<'_>,
+    which: usize,
+    part: &BundleModule<'_, '_>,
+) -> Result<(), MergeError>
     ensures given { OnOk result ((p : Program) (list : List ℕ) (written : ℕ → Bool) →
-        IsPartOf p «module» part.now →
-        is_some part.now.written ≡ written «module» →
-        AddsNames p list (IsGiven written
-        (IsWhere (has_import_meta (tree_of p «module») ≡ true) (NameOf (meaning.Meta «module»))))
+        IsPartOf p which part.now →
+        is_some part.now.written ≡ written which →
+        GivesNames p list (IsGiven written
+        (IsWhere (has_import_meta (tree_of p which) ≡ true) (NameOf (meaning.Meta which))))
         names.old names.new) }
     ensures refused { IfErr result (λ refusal. (p : Program) (written : ℕ → Bool) →
-        IsPartOf p «module» part.now →
-        is_some part.now.written ≡ written «module» →
+        IsPartOf p which part.now →
+        is_some part.now.written ≡ written which →
         RefusesLabels (IsGiven written
-        (IsWhere (has_import_meta (tree_of p «module») ≡ true) (NameOf (meaning.Meta «module»))))
+        (IsWhere (has_import_meta (tree_of p which) ≡ true) (NameOf (meaning.Meta which))))
         names.old refusal) }
 {
     if !part.tables.has_import_meta {
@@ -546,85 +557,85 @@ fn give_meta(names: &mut Names<'_>, module: usize, part: &Part<'_, '_>) -> Resul
     if part.written.is_some() {
         return Ok(());
     }
-    names.give(Label::Meta { module }, "importMeta")
+    names.give(Label::Meta { which }, "importMeta")
 }
 
 // Gives names to what a module takes of the CommonJS modules that it loads.
 fn give_loads<'a>(
-    names: &mut Names<'a>,
+    names: &mut BundleNames<'a>,
     linking: &Linking<'a>,
-    module: usize,
+    which: usize,
 ) -> Result<(), MergeError>
     ensures given { OnOk result ((p : Program) (list : List ℕ) →
         HandsOver p list linking.now →
         AreModules p →
-        IsReached p «module» →
-        AddsNames p list (IsOfLoads p «module») names.old names.new) }
+        IsReached p which →
+        GivesNames p list (IsOfLoads p which) names.old names.new) }
     ensures refused { IfErr result (λ refusal. (p : Program) (list : List ℕ) →
         HandsOver p list linking.now →
         AreModules p →
-        IsReached p «module» →
-        RefusesLabels (IsOfLoads p «module») names.old refusal) }
+        IsReached p which →
+        RefusesLabels (IsOfLoads p which) names.old refusal) }
 {
-    for loaded in linking.loads(module) {
-        give_loaded(names, linking, module, loaded)?;
+    for loaded in linking.loads(which) {
+        give_loaded(names, linking, which, loaded)?;
     }
     Ok(())
 }
 
 // Gives a name to the object of a module's namespace, if that is meant.
 fn give_namespace<'a>(
-    names: &mut Names<'a>,
+    names: &mut BundleNames<'a>,
     linking: &Linking<'a>,
-    module: usize,
+    which: usize,
 ) -> Result<(), MergeError>
     ensures given { OnOk result ((p : Program) (list : List ℕ) →
         IsLinkingOf p linking.now →
         HandsOver p list linking.now →
         AreModules p →
-        AddsNames p list
-        (IsWhere (meaning.IsMeant p (meaning.Of (links.Namespace «module»)))
-        (NameOf (meaning.Of (links.Namespace «module»))))
+        GivesNames p list
+        (IsWhere (meaning.IsMeant p (meaning.Of (links.Namespace which)))
+        (NameOf (meaning.Of (links.Namespace which))))
         names.old names.new) }
     ensures refused { IfErr result (λ refusal. (p : Program) →
         IsLinkingOf p linking.now →
         AreModules p →
         RefusesLabels
-        (IsWhere (meaning.IsMeant p (meaning.Of (links.Namespace «module»)))
-        (NameOf (meaning.Of (links.Namespace «module»))))
+        (IsWhere (meaning.IsMeant p (meaning.Of (links.Namespace which)))
+        (NameOf (meaning.Of (links.Namespace which))))
         names.old refusal) }
 {
-    if !linking.is_object_meant(module) {
+    if !linking.is_object_meant(which) {
         return Ok(());
     }
-    give_target(names, linking, Target::Namespace { module })
+    give_target(names, linking, TargetRef::Namespace { which })
 }
 
 // Gives names to what a module takes of a CommonJS module.
 fn give_loaded<'a>(
-    names: &mut Names<'a>,
+    names: &mut BundleNames<'a>,
     linking: &Linking<'a>,
     taker: usize,
     loaded: &Loaded<'a>,
 ) -> Result<(), MergeError>
     ensures given { OnOk result ((p : Program) (list : List ℕ) →
         HandsOver p list linking.now →
-        IsTakable p (links.CommonJs taker loaded.now.module entries.Whole) →
-        AddsNames p list
-        (IsTakenOf (links.CommonJs taker loaded.now.module entries.Whole)
+        IsTakable p (links.CommonJs taker loaded.now.which entries.Whole) →
+        GivesNames p list
+        (IsTakenOf (links.CommonJs taker loaded.now.which entries.Whole)
         (map (λ name. name.now) loaded.now.names.items) loaded.now.whole)
         names.old names.new) }
     ensures refused { IfErr result (λ refusal. (p : Program) (list : List ℕ) →
         HandsOver p list linking.now →
-        IsTakable p (links.CommonJs taker loaded.now.module entries.Whole) →
+        IsTakable p (links.CommonJs taker loaded.now.which entries.Whole) →
         RefusesLabels
-        (IsTakenOf (links.CommonJs taker loaded.now.module entries.Whole)
+        (IsTakenOf (links.CommonJs taker loaded.now.which entries.Whole)
         (map (λ name. name.now) loaded.now.names.items) loaded.now.whole)
         names.old refusal) }
 {
-    let base = Target::CommonJs {
+    let base = TargetRef::CommonJs {
         taker,
-        module: loaded.module,
+        which: loaded.which,
         taken: Taken::Whole,
     };
     give_taken(names, linking, base, &loaded.names, loaded.whole)

@@ -11,9 +11,9 @@ ghost use Rattle.bundle_merge_names.specs.Numbers.{position};
 ghost use Rattle.bundle_merge_names.specs.declared.names.Label as labels;
 ghost use Rattle.bundle_merge_names.specs.declared.error.MergeError.TheVariants.{ContextsUsedUp};
 
-use crate::context::{Contexts, GLOBAL};
+use crate::context::{FreshContexts, GLOBAL};
 use crate::error::MergeError;
-use bundle_link_targets::Target;
+use bundle_link_targets::TargetRef;
 use bundle_tree_places::Name;
 use indexmap::IndexMap;
 use std::alloc::{AllocError, Global};
@@ -22,11 +22,11 @@ use std::alloc::{AllocError, Global};
 #[derive(Clone, Copy, PartialEq, Eq, Hash)]
 pub enum Label<'a> {
     /// What names of modules stand for, but for a declaration of a module, which keeps its own.
-    Of(Target<'a>),
+    Of(TargetRef<'a>),
     /// The function that loads a CommonJS module.
-    Load { module: usize },
+    Load { which: usize },
     /// The object for `import.meta` in a module.
-    Meta { module: usize },
+    Meta { which: usize },
     /// The helper that load functions are made by,
     Helper,
     /// its parameter,
@@ -36,7 +36,7 @@ pub enum Label<'a> {
 }
 
 /// The names of a bundle.
-pub struct Names<'a> {
+pub struct BundleNames<'a> {
     // The context of the top of each module.
     locals: Vec<u32>,
     // For each module, the contexts of the scopes in its list that bind something,
@@ -45,13 +45,13 @@ pub struct Names<'a> {
     answered: Vec<Vec<Option<u32>>>,
     labels: IndexMap<Label<'a>, Name<'a>>,
     // The contexts that are still free.
-    contexts: Contexts,
+    contexts: FreshContexts,
 }
 
 // By hand, so that who lets go of one only calls this.
-impl<'a> Drop for Names<'a> {
+impl<'a> Drop for BundleNames<'a> {
     fn drop(self) {
-        let Names {
+        let BundleNames {
             locals: _locals,
             scopes: _scopes,
             answered: _answered,
@@ -61,16 +61,16 @@ impl<'a> Drop for Names<'a> {
     }
 }
 
-impl<'a> Names<'a> {
+impl<'a> BundleNames<'a> {
     /// No names, where these contexts are free.
-    pub fn new(alloc: Global, contexts: Contexts) -> Names<'a>
+    pub fn new(alloc: Global, contexts: FreshContexts) -> BundleNames<'a>
         ensures locals { result.locals.items ≡ [] }
         ensures scopes { result.scopes.items ≡ [] }
         ensures answered { result.answered.items ≡ [] }
         ensures labels { (label : labels.Label) → held result label ≡ None }
         ensures contexts { result.contexts ≡ contexts }
     {
-        Names {
+        BundleNames {
             locals: Vec::new(alloc),
             scopes: Vec::new(alloc),
             answered: Vec::new(alloc),
@@ -80,17 +80,17 @@ impl<'a> Names<'a> {
     }
 
     /// The next context, for a scope of a module or of what the hook answered for it.
-    pub fn take(&mut self, module: usize) -> Result<u32, MergeError>
+    pub fn take(&mut self, which: usize) -> Result<u32, MergeError>
         ensures taken { IfOk result (λ context. context ≡ position self.old.contexts) }
         ensures next { IfOk result (λ context. position self.new.contexts ≡ suc context) }
         ensures locals { self.new.locals ≡ self.old.locals }
         ensures scopes { self.new.scopes ≡ self.old.scopes }
         ensures answered { self.new.answered ≡ self.old.answered }
         ensures labels { self.new.labels ≡ self.old.labels }
-        ensures refused { IfErr result (λ refusal. refusal ≡ ContextsUsedUp (Some «module»)) }
+        ensures refused { IfErr result (λ refusal. refusal ≡ ContextsUsedUp (Some which)) }
         ensures none { IfErr result (λ refusal. self.old.contexts.next ≡ None) }
     {
-        self.contexts.take(Some(module))
+        self.contexts.take(Some(which))
     }
 
     /// Adds the next module: the context of its top, and those of the scopes in its list and in what the hook answered.
@@ -126,40 +126,40 @@ impl<'a> Names<'a> {
     }
 
     /// The contexts that are free.
-    pub fn contexts(&self) -> Contexts
+    pub fn contexts(&self) -> FreshContexts
         ensures { result ≡ self.now.contexts }
     {
         self.contexts
     }
 
     /// A name at the top of a module.
-    pub fn local(&self, module: usize, sym: &'a str) -> Name<'a>
-        ensures { ident_of result ≡ (sym.now, unwrap_or (local_in self.now «module») 1) }
+    pub fn local(&self, which: usize, sym: &'a str) -> Name<'a>
+        ensures { ident_of result ≡ (sym.now, unwrap_or (local_in self.now which) 1) }
     {
-        let ctxt = self.locals.get(module).copied().unwrap_or(GLOBAL);
+        let ctxt = self.locals.get(which).copied().unwrap_or(GLOBAL);
         Name { sym, ctxt }
     }
 
     /// The contexts of the scopes in the list of a module.
-    pub fn scopes(&self, module: usize) -> &[Option<u32>]
-        ensures { result.now ≡ scopes_in self.now «module» }
+    pub fn scopes(&self, which: usize) -> &[Option<u32>]
+        ensures { result.now ≡ scopes_in self.now which }
     {
-        contexts_at(&self.scopes, module)
+        contexts_at(&self.scopes, which)
     }
 
     /// The contexts of the scopes in the list of what the hook answered for a module.
-    pub fn answered(&self, module: usize) -> &[Option<u32>]
-        ensures { result.now ≡ answered_in self.now «module» }
+    pub fn answered(&self, which: usize) -> &[Option<u32>]
+        ensures { result.now ≡ answered_in self.now which }
     {
-        contexts_at(&self.answered, module)
+        contexts_at(&self.answered, which)
     }
 
     /// What stands for a target.
-    pub fn target(&self, target: Target<'a>) -> Name<'a>
+    pub fn target(&self, target: TargetRef<'a>) -> Name<'a>
         ensures { ident_of result ≡ target_ident self.now target.entry }
     {
         match target {
-            Target::Declared { module, name } => self.local(module, name),
+            TargetRef::Declared { which, name } => self.local(which, name),
             _ => self.of(Label::Of(target)),
         }
     }
@@ -179,10 +179,10 @@ impl<'a> Names<'a> {
 }
 
 // The contexts of the module with this number.
-fn contexts_at(modules: &[Vec<Option<u32>>], module: usize) -> &[Option<u32>]
-    ensures { result.now ≡ list_in modules.now «module» }
+fn contexts_at(modules: &[Vec<Option<u32>>], which: usize) -> &[Option<u32>]
+    ensures { result.now ≡ list_in modules.now which }
 {
-    match modules.get(module) {
+    match modules.get(which) {
         Some(contexts) => contexts.as_slice(),
         None => &[],
     }

@@ -5,20 +5,20 @@ ghost use Rattle.bundle_rules.specs.Linking.{IsCommonJs};
 ghost use Rattle.bundle_rules.specs.Program.{Program};
 ghost use Rattle.bundle_link_targets.specs.Linked.{IsLinkingOf};
 
-use crate::context::Contexts;
+use crate::context::FreshContexts;
 use bundle_link_tables::Tables;
 use bundle_link_targets::Linking;
 use bundle_order_sort::Block;
 use bundle_scope_denote::Denotations;
+use bundle_syntax::Piece;
 use bundle_tree_ast::{KeyValueProp, ModuleItem};
-use bundle_tree_piece::Piece;
 use bundle_tree_places::Name;
 use std::collections::BTreeMap;
 
 /// A module of a bundle, as it was read. The modules of a bundle are numbered by their places in its list, the entry
 /// last.
 #[derive(Clone, Copy)]
-pub struct Part<'t, 'a> {
+pub struct BundleModule<'t, 'a> {
     /// Its items; in front of its own may be the statement that holds its `import.meta`.
     pub items: &'a [ModuleItem],
     /// What each occurrence in the list of its own items denotes by its symbol, read as the kind of module that it is.
@@ -33,7 +33,7 @@ pub struct Part<'t, 'a> {
     pub written: Option<Name<'a>>,
 }
 
-impl<'t, 'a> Part<'t, 'a> {
+impl<'t, 'a> BundleModule<'t, 'a> {
     /// The statement that holds its `import.meta`, if it is there already.
     pub fn written_items(&self) -> &'a [ModuleItem]
         ensures { result.now
@@ -70,23 +70,23 @@ pub struct Answered<'t, 'h> {
 /// something, by their numbers; what their names are linked to; the blocks in their order, whose places are numbers of
 /// modules; and the contexts that are free.
 #[derive(Clone, Copy)]
-pub struct BundleParts<'t, 'a, 'h> {
-    pub parts: &'t [Part<'t, 'a>],
+pub struct BundleInput<'t, 'a, 'h> {
+    pub parts: &'t [BundleModule<'t, 'a>],
     pub answers: &'t [Option<Answered<'t, 'h>>],
     pub linking: &'t Linking<'a>,
     pub blocks: &'t [Block],
-    pub contexts: Contexts,
+    pub contexts: FreshContexts,
 }
 
-impl<'t, 'a, 'h> BundleParts<'t, 'a, 'h> {
+impl<'t, 'a, 'h> BundleInput<'t, 'a, 'h> {
     /// Whether some module is CommonJS.
     pub fn has_common_js(&self) -> bool
         ensures { (p : Program) →
             IsLinkingOf p self.now.linking.now →
             IsTrue result ↔ ((m : ℕ) × (m < length self.now.parts.now) × IsCommonJs p m) }
     {
-        for module in 0..self.parts.len() {
-            if self.linking.is_common_js(module) {
+        for which in 0..self.parts.len() {
+            if self.linking.is_common_js(which) {
                 return true;
             }
         }
@@ -94,9 +94,9 @@ impl<'t, 'a, 'h> BundleParts<'t, 'a, 'h> {
     }
 
     /// What the hook answered for a module, if something.
-    pub fn answer(&self, module: usize) -> Option<Answered<'t, 'h>>
-        ensures { result ≡ unwrap_or (slice_get self.now.answers.now «module») None }
+    pub fn answer(&self, which: usize) -> Option<Answered<'t, 'h>>
+        ensures { result ≡ unwrap_or (slice_get self.now.answers.now which) None }
     {
-        self.answers.get(module).copied().unwrap_or(None)
+        self.answers.get(which).copied().unwrap_or(None)
     }
 }

@@ -1,17 +1,394 @@
+-- The nodes of a graph of items, to which some are added.
+-- The edges of a graph of items, to which some are added.
+-- What items depend on, where all dependencies were found.
+-- One item more in a group.
 -- The places of items in their numbering.
-use Rattle.std.proofs.Common.{◌≡◌, ◌≢◌, ◌↔◌, ◌⊎◌, ℕ, zero, suc, ◌+◌, ◌<◌, ◌≤◌, Bool, true, false, not, cond, nat_eq, List, [], ◌∷◌, ◌++◌, length, get_or, map, take, Contains, refl, sym, ap, ◌∙◌, subst, append_assoc, inl, inr, eq-eqb, arith}
-use Rattle.std.specs.List.{All, IsDistinct, filter, flat_map}
-use Rattle.std.proofs.lemmas.Bool.{cases_lt, cases_eq, false≢true}
-use Rattle.std.proofs.lemmas.List.{length-append, length-map, map-append, get_or-map, get_or_default, length-take-le, take_more}
-use Rattle.std.proofs.lemmas.List.Elements.{Contains-append_left, Contains-append_right, Contains-append_cases}
+-- To which range a number belongs, where the ranges ascend.
+-- The graph of items of which all dependencies were found has just these.
+use Rattle.std.proofs.Common.{◌≡◌, ℕ, zero, suc, ◌+◌, ◌<◌, ◌⊎◌, inl, inr, Bool, true, false, nat_eq, List, [], ◌∷◌, ◌++◌, Some, None, length, slice_get, Contains, refl, sym, ap, ◌∙◌, subst, arith, ◌≢◌, ◌&&◌, cond, eqb-true, eq-eqb, ◌≤◌, ◌↔◌, Option, IsSome, is_some, get_or, map, ◌-◌, take, drop, append_assoc, append-nil, not, leb, ltb}
+use Rattle.std.specs.List.{list_any, slice_range, All, IsDistinct, filter, flat_map}
+use Rattle.std.proofs.lemmas.Option.{same_Some, slice_get_within, get_or_from_slice_get, none-some}
+use Rattle.std.proofs.lemmas.Bool.{cases_lt, false≢true, and_parts, and_from, cases_eq, le-ltb, lt-leb}
+use Rattle.std.proofs.lemmas.List.Elements.{Contains-append_left, Contains-append_right, Contains-append_cases, Contains-push, Contains-push_cases}
+use Rattle.std.specs.Option.{option_and_then}
+use Rattle.std.proofs.lemmas.List.{length-map, length-append, map-append, get_or-map, get_or_default, length-take-le, take_more}
 use Rattle.std.proofs.lemmas.Map.Keys.{apart_from_distinct}
-use Rattle.bundle_tree_piece.specs.Item.{Item}
-use Rattle.bundle_order_needs.proofs.ListLemmas.{Contains-none, Contains-cons}
-use Rattle.bundle_rules.specs.Sorting.{Numbered, free_items, is_injected, numbered_items, owned_items}
-use Rattle.bundle_order.specs.declared.number.Place.{Place}
+use Rattle.std.specs.declared.ops.Range.{Range}
+use Rattle.bundle_order_graph.specs.Nodes.{added}
+use Rattle.bundle_order_graph.specs.Statements.{Statements, AddsStatement, AddsDependency, no_statements, weight, strongest, IsDependency}
+use Rattle.bundle_order_graph.specs.declared.sort.Required.{Required}
+use Rattle.bundle_order_graph.proofs.NodeLemmas.{place-contains, place-out, added-in, added-out, Contains-added_old, Contains-added_new, Contains-added_cases}
+use Rattle.bundle_order_graph.specs.declared.sort.Required.TheVariants.{Always, Maybe}
+use Rattle.bundle_syntax.specs.Item.{Item}
+use Rattle.bundle_order_sort.specs.declared.Dependency.{Dependency}
+use Rattle.bundle_order_sort.specs.declared.SortItem.{SortItem}
+use Rattle.bundle_order_sort.specs.Listed.{NamesListed, DependsListed}
+use Rattle.bundle_rules.specs.Order
+use Rattle.bundle_rules.specs.Order.{Group, Mention, mention_at, by_member, by_prototype, by_value, SetsUpBy, IsWeak}
+use Rattle.bundle_order_sort.proofs.ElementLemmas.{Contains-none, Contains-cons}
+use Rattle.bundle_rules.specs.Sorting.{flat, Numbered, free_items, is_injected, numbered_items, owned_items, owner_in, owners_by, IsDependency as IsDependency_weight}
+use Rattle.bundle_rules.specs.Statements.{TopItem, placed}
 use Rattle.bundle_order_sort.specs.Arranged.{IsArrangement}
+use Rattle.bundle_order.specs.Found.{AreFound, HasFound}
+use Rattle.bundle_order.specs.Cut.{dependencies_of, cut_item, cut_items}
+use Rattle.bundle_order.specs.declared.needs.ItemRange.{ItemRange}
+use Rattle.bundle_order.specs.Items.{AreItemNodes, AreOnce, AreIndependent as AreApart_node, AreBetween, IsAlways, how_required, IsItemGraph, ListsDependency, GainsEdges, GrowsGraph}
+use Rattle.bundle_order.specs.Grouped.{begun, AreAscending, ArePast, ends_of, owner_at}
+use Rattle.bundle_order.specs.declared.number.ItemPlace.{ItemPlace}
 use Rattle.bundle_order.specs.Owned.{owner_by}
 use Rattle.bundle_order.specs.Numbering.{all_places, at_of, chosen_places, is_chosen, numbered_at, owners_of, place_of}
+
+-- ---- each of them once
+-- what stands in a list stands among its elements
+there_node : (nodes : List ℕ) (i n : ℕ) → slice_get nodes i ≡ Some n → Contains nodes n
+there_node nodes i n e = (i, slice_get_within nodes i n e, get_or_from_slice_get nodes i n n e)
+
+-- a number behind a list, at its place
+pushed : (nodes : List ℕ) (n i m : ℕ) → slice_get (nodes ++ n ∷ []) i ≡ Some m → (slice_get nodes i ≡ Some m) ⊎ ((i ≡ length nodes) × (n ≡ m))
+pushed [] n zero m e = inr (refl, same_Some n m e)
+pushed [] n (suc i) m e = absurd (not_there e)
+  where
+    not_there : None ≡ Some m → ⊥
+    not_there e = cc
+pushed (x ∷ xs) n zero m e = inl e
+pushed (x ∷ xs) n (suc i) m e = elim (pushed xs n i m e) [ inl before ↦ inl before | inr last ↦ inr (ap suc last.0, last.1) ]
+
+once_pushed : (nodes : List ℕ) (n : ℕ) → (Contains nodes n → ⊥) → AreOnce nodes → AreOnce (nodes ++ n ∷ [])
+once_pushed nodes n out once i j m a b = by (pushed nodes n i m a) (pushed nodes n j m b)
+  where
+    by : (slice_get nodes i ≡ Some m) ⊎ ((i ≡ length nodes) × (n ≡ m)) → (slice_get nodes j ≡ Some m) ⊎ ((j ≡ length nodes) × (n ≡ m)) → i ≡ j
+    by (inl first) (inl second) = once i j m first second
+    by (inl first) (inr last) = absurd (out (subst (Contains nodes) (sym last.1) (there_node nodes i m first)))
+    by (inr last) (inl second) = absurd (out (subst (Contains nodes) (sym last.1) (there_node nodes j m second)))
+    by (inr last) (inr other) = last.0 ∙ sym other.0
+
+pub once_added : (nodes : List ℕ) (n : ℕ) → AreOnce nodes → AreOnce (added nodes n)
+once_added nodes n once = by (list_any (nat_eq n) nodes) refl
+  where
+    by : (b : Bool) → list_any (nat_eq n) nodes ≡ b → AreOnce (added nodes n)
+    by true e = subst AreOnce (sym (added-in nodes n e)) once
+    by false e = subst AreOnce (sym (added-out nodes n e)) (once_pushed nodes n (λ c. let less = place-contains nodes n c in omega (arith, less, place-out nodes n e)) once)
+
+-- ---- the nodes of a graph
+pub no_nodes : AreApart_node no_statements 0
+no_nodes = record {
+  nodes = λ n. (λ c. absurd (omega (arith, c.1)), λ less. absurd (omega (arith, less)));
+  once = λ i j n at other. let c = there_node [] i n at in absurd (omega (arith, c.1));
+  none = λ a b. refl;
+}
+
+-- the number of the next item is added
+one_more : (old new : Statements) (n : ℕ) → AddsStatement old new n → AreItemNodes old n → AreItemNodes new (n + 1)
+one_more old new n adds nodes m = (
+  λ c. elim (Contains-added_cases old.nodes n m (subst (λ xs. Contains xs m) adds.nodes c)) [
+    | inl before ↦ let less : m < n = (nodes m).0 before in omega (arith, less)
+    | inr same ↦ omega (arith, same)
+  ],
+  λ less. subst (λ xs. Contains xs m) (sym adds.nodes) (elim (cases_lt m n) [
+    | inl before ↦ Contains-added_old old.nodes n m ((nodes m).1 before)
+    | inr last ↦ let same : n ≡ m = omega (arith, less, last) in subst (λ k. Contains (added old.nodes n) k) same (Contains-added_new old.nodes n)
+  ]),
+)
+
+pub one_apart : (old new : Statements) (n : ℕ) → AddsStatement old new n → AreApart_node old n → AreApart_node new (n + 1)
+one_apart old new n adds apart = record {
+  nodes = one_more old new n adds apart.nodes;
+  once = subst AreOnce (sym adds.nodes) (once_added old.nodes n apart.once);
+  none = λ a b. adds.same a b ∙ apart.none a b;
+}
+
+-- an edge between two of the items is added
+pub edge_more : (old new : Statements) (a b count : ℕ) (required : Required) → AddsDependency old new a b required → a < count → b < count → AreItemNodes old count → AreItemNodes new count
+edge_more old new a b count required adds a_in b_in nodes m = (
+  λ c. elim (Contains-added_cases (added old.nodes a) b m (subst (λ xs. Contains xs m) adds.nodes c)) [
+    | inl before ↦ elim (Contains-added_cases old.nodes a m before) [ inl first ↦ (nodes m).0 first | inr same ↦ omega (arith, same, a_in) ]
+    | inr same ↦ omega (arith, same, b_in)
+  ],
+  λ less. subst (λ xs. Contains xs m) (sym adds.nodes) (Contains-added_old (added old.nodes a) b m (Contains-added_old old.nodes a m ((nodes m).1 less))),
+)
+
+pub edge_once : (old new : Statements) (a b : ℕ) (required : Required) → AddsDependency old new a b required → AreOnce old.nodes → AreOnce new.nodes
+edge_once old new a b required adds once = subst AreOnce (sym adds.nodes) (once_added (added old.nodes a) b (once_added old.nodes a once))
+
+-- ---- one dependency
+-- the end of the one dependency that is listed
+only_one : (d : Dependency) (t : ℕ) (w : Bool) → Contains (d ∷ []) (record { item = t; is_weak = w }) → d ≡ record { item = t; is_weak = w }
+only_one d t w c = elim (Contains-push_cases [] d (record { item = t; is_weak = w }) c) [ inl none ↦ absurd (omega (arith, none.1)) | inr same ↦ same ]
+
+module _ (Q : Option Required → Type 0) (Counts : Bool → Type 0) (law : (was : Option Required) (w : Bool) → Q (Some (strongest was (how_required w))) ↔ (Q was ⊎ Counts w)) where
+  -- the edge is added
+  pub one_edge : (old new : Statements) (s count : ℕ) (d : Dependency) → AddsDependency old new s d.item (how_required d.is_weak) → d.item < count → d.item ≢ s → GainsEdges (λ g a b. Q (weight g a b)) Counts old new s count (d ∷ [])
+  one_edge old new s count d adds within other x y = by (nat_eq x s && nat_eq y d.item) refl
+    where
+      listed : (y : ℕ) → y ≡ d.item → Counts d.is_weak → ListsDependency Counts (d ∷ []) count s y
+      listed y same counts = record {
+        is_weak = d.is_weak;
+        counts = counts;
+        listed = subst (λ t. Contains (d ∷ []) (record { item = t; is_weak = d.is_weak })) (sym same) (Contains-push [] d);
+        within = subst (λ t. t < count) (sym same) within;
+        other = subst (λ t. t ≢ s) (sym same) other;
+      }
+
+      end_of : (y : ℕ) → ListsDependency Counts (d ∷ []) count s y → (y ≡ d.item) × Counts d.is_weak
+      end_of y h = let is = only_one d y h.is_weak h.listed in (sym (ap (λ e. e.item) is), subst Counts (sym (ap (λ e. e.is_weak) is)) h.counts)
+
+      by : (t : Bool) → (nat_eq x s && nat_eq y d.item) ≡ t → Q (weight new x y) ↔ (Q (weight old x y) ⊎ ((x ≡ s) × ListsDependency Counts (d ∷ []) count s y))
+      by true e =
+          let both = and_parts (nat_eq x s) (nat_eq y d.item) e in
+          let at_s : x ≡ s = eqb-true x s both.0 in
+          let at_end : y ≡ d.item = eqb-true y d.item both.1 in
+          let is : weight new x y ≡ Some (strongest (weight old s d.item) (how_required d.is_weak)) = adds.weights x y ∙ ap (λ t. cond t (Some (strongest (weight old s d.item) (how_required d.is_weak))) (weight old x y)) e in
+          let was : weight old x y ≡ weight old s d.item = ap (λ a. weight old a y) at_s ∙ ap (λ b. weight old s b) at_end in
+          let step = law (weight old s d.item) d.is_weak in (
+            λ q. elim (step.0 (subst Q is q)) [ inl before ↦ inl (subst Q (sym was) before) | inr counts ↦ inr (at_s, listed y at_end counts) ],
+            λ h. subst Q (sym is) (step.1 (elim h [ inl before ↦ inl (subst Q was before) | inr more ↦ inr (end_of y more.1).1 ])),
+          )
+      by false e =
+          let is : weight new x y ≡ weight old x y = adds.weights x y ∙ ap (λ t. cond t (Some (strongest (weight old s d.item) (how_required d.is_weak))) (weight old x y)) e in (
+            λ q. inl (subst Q is q),
+            λ h. elim h [
+              | inl before ↦ subst Q (sym is) before
+              | inr more ↦ absurd (false≢true (sym e ∙ and_from (nat_eq x s) (nat_eq y d.item) (eq-eqb x s more.0) (eq-eqb y d.item (end_of y more.1).0)))
+            ],
+          )
+
+-- an edge is there once it is added
+some_law : (was : Option Required) (w : Bool) → IsSome (Some (strongest was (how_required w))) ↔ (IsSome was ⊎ Unit {0})
+some_law was w = (λ _. inr tt, λ _. refl)
+
+-- it is always required where it was or now is
+always_law : (was : Option Required) (w : Bool) → (Some (strongest was (how_required w)) ≡ Some Always) ↔ ((was ≡ Some Always) ⊎ (w ≡ false))
+always_law (Some Always) w = (λ _. inl refl, λ _. refl)
+always_law (Some Maybe) true = (λ e. inl e, λ h. elim h [ inl e ↦ e | inr f ↦ absurd (false≢true (sym f)) ])
+always_law (Some Maybe) false = (λ _. inr refl, λ _. refl)
+always_law None true = (λ e. cc e, λ h. elim h [ inl e ↦ cc e | inr f ↦ absurd (false≢true (sym f)) ])
+always_law None false = (λ _. inr refl, λ _. refl)
+
+pub Grows-one : (old new : Statements) (s count : ℕ) (d : Dependency) (required : Required) → AddsDependency old new s d.item required → required ≡ how_required d.is_weak → d.item < count → d.item ≢ s → AreItemNodes new count → GrowsGraph old new s count (d ∷ [])
+Grows-one old new s count d required adds is within other nodes =
+    let as_told : AddsDependency old new s d.item (how_required d.is_weak) = subst (λ r. AddsDependency old new s d.item r) is adds in
+    record {
+      nodes = nodes;
+      once = edge_once old new s d.item required adds;
+      edges = one_edge (λ o. IsSome o) (λ w. Unit {0}) some_law old new s count d as_told within other;
+      always = one_edge (λ o. o ≡ Some Always) (λ w. w ≡ false) always_law old new s count d as_told within other;
+    }
+
+-- ---- several
+module _ (Leads : Statements → ℕ → ℕ → Type 0) (Counts : Bool → Type 0) where
+  -- none that counts is listed
+  gains_nothing : (g : Statements) (s count : ℕ) (ds : List Dependency) → ((y : ℕ) → ListsDependency Counts ds count s y → ⊥) → GainsEdges Leads Counts g g s count ds
+  gains_nothing g s count ds none x y = (λ h. inl h, λ h. elim h [ inl before ↦ before | inr more ↦ absurd (none y more.1) ])
+
+  gains_more : (a b c : Statements) (s count : ℕ) (xs ys : List Dependency) → GainsEdges Leads Counts a b s count xs → GainsEdges Leads Counts b c s count ys → GainsEdges Leads Counts a c s count (xs ++ ys)
+  gains_more a b c s count xs ys first second x y = (
+    λ h. elim ((second x y).0 h) [
+      | inl before ↦ elim ((first x y).0 before) [ inl old ↦ inl old | inr more ↦ inr (more.0, left more.1) ]
+      | inr more ↦ inr (more.0, right more.1)
+    ],
+    λ h. elim h [
+      | inl old ↦ (second x y).1 (inl ((first x y).1 (inl old)))
+      | inr more ↦ back more.0 more.1 (Contains-append_cases xs ys (record { item = y; is_weak = more.1.is_weak }) more.1.listed)
+    ],
+  )
+    where
+      left : ListsDependency Counts xs count s y → ListsDependency Counts (xs ++ ys) count s y
+      left h = record { is_weak = h.is_weak; counts = h.counts; listed = Contains-append_left xs ys (record { item = y; is_weak = h.is_weak }) h.listed; within = h.within; other = h.other }
+
+      right : ListsDependency Counts ys count s y → ListsDependency Counts (xs ++ ys) count s y
+      right h = record { is_weak = h.is_weak; counts = h.counts; listed = Contains-append_right xs ys (record { item = y; is_weak = h.is_weak }) h.listed; within = h.within; other = h.other }
+
+      back : x ≡ s → (h : ListsDependency Counts (xs ++ ys) count s y) → Contains xs (record { item = y; is_weak = h.is_weak }) ⊎ Contains ys (record { item = y; is_weak = h.is_weak }) → Leads c x y
+      back at h (inl l) = (second x y).1 (inl ((first x y).1 (inr (at, record { is_weak = h.is_weak; counts = h.counts; listed = l; within = h.within; other = h.other }))))
+      back at h (inr l) = (second x y).1 (inr (at, record { is_weak = h.is_weak; counts = h.counts; listed = l; within = h.within; other = h.other }))
+
+pub Grows-none : (g : Statements) (s count : ℕ) → AreItemNodes g count → GrowsGraph g g s count []
+Grows-none g s count nodes = record {
+  nodes = nodes;
+  once = λ once. once;
+  edges = gains_nothing IsDependency (λ w. Unit {0}) g s count [] (λ y h. omega (arith, h.listed.1));
+  always = gains_nothing IsAlways (λ w. w ≡ false) g s count [] (λ y h. omega (arith, h.listed.1));
+}
+
+-- a dependency that is passed over
+pub Grows-passed : (g : Statements) (s count : ℕ) (d : Dependency) → AreItemNodes g count → ((d.item < count) → (d.item ≢ s) → ⊥) → GrowsGraph g g s count (d ∷ [])
+Grows-passed g s count d nodes out = record {
+  nodes = nodes;
+  once = λ once. once;
+  edges = gains_nothing IsDependency (λ w. Unit {0}) g s count (d ∷ []) (λ y h. none y h.is_weak h.listed h.within h.other);
+  always = gains_nothing IsAlways (λ w. w ≡ false) g s count (d ∷ []) (λ y h. none y h.is_weak h.listed h.within h.other);
+}
+  where
+    none : (y : ℕ) (w : Bool) → Contains (d ∷ []) (record { item = y; is_weak = w }) → y < count → y ≢ s → ⊥
+    none y w c within other =
+        let is : d.item ≡ y = ap (λ e. e.item) (only_one d y w c) in
+        out (subst (λ t. t < count) (sym is) within) (subst (λ t. t ≢ s) (sym is) other)
+
+pub Grows-more : (a b c : Statements) (s count : ℕ) (xs ys : List Dependency) → GrowsGraph a b s count xs → GrowsGraph b c s count ys → GrowsGraph a c s count (xs ++ ys)
+Grows-more a b c s count xs ys first second = record {
+  nodes = second.nodes;
+  once = λ once. second.once (first.once once);
+  edges = gains_more IsDependency (λ w. Unit {0}) a b c s count xs ys first.edges second.edges;
+  always = gains_more IsAlways (λ w. w ≡ false) a b c s count xs ys first.always second.always;
+}
+
+-- ---- of all items
+-- the graph has the edges of the first n of these items
+pub record IsGraphTo (graph : Statements) (items : List SortItem) (n : ℕ) : Type 0 where
+  pub nodes : AreItemNodes graph (length items)
+  pub once : AreOnce graph.nodes
+  pub edges : (a b : ℕ) → IsDependency graph a b ↔ ((a < n) × DependsListed items a b)
+  pub always : (a b : ℕ) → IsAlways graph a b ↔ ((a < n) × NamesListed items a b false)
+
+pub IsGraphTo-none : (graph : Statements) (items : List SortItem) → AreApart_node graph (length items) → IsGraphTo graph items 0
+IsGraphTo-none graph items apart = record {
+  nodes = apart.nodes;
+  once = apart.once;
+  edges = λ a b. (λ h. absurd (false≢true (sym (ap (λ (o : Option Required). is_some o) (apart.none a b)) ∙ h)), λ h. absurd (omega (arith, h.0)));
+  always = λ a b. (λ h. cc (sym h ∙ apart.none a b), λ h. absurd (omega (arith, h.0)));
+}
+
+-- those of one more item
+module _ (old new : Statements) (items : List SortItem) (n : ℕ) (item : SortItem) (at : slice_get items n ≡ Some item) (grows : GrowsGraph old new n (length items) item.dependencies.items) where
+  weak_or_not : (a b : ℕ) → a ≡ n → ListsDependency (λ w. Unit {0}) item.dependencies.items (length items) n b → DependsListed items a b
+  weak_or_not a b same h = subst (λ k. DependsListed items k b) (sym same) (h.is_weak, record { item = item; at = at; listed = h.listed; within = h.within; other = h.other })
+
+  strong : (a b : ℕ) → a ≡ n → ListsDependency (λ w. w ≡ false) item.dependencies.items (length items) n b → NamesListed items a b false
+  strong a b same h = subst (λ k. NamesListed items k b false) (sym same) (record { item = item; at = at; listed = subst (λ w. Contains item.dependencies.items (record { item = b; is_weak = w })) h.counts h.listed; within = h.within; other = h.other })
+
+  named : {Counts : Bool → Type 0} (a b : ℕ) (w : Bool) → a ≡ n → Counts w → NamesListed items a b w → ListsDependency Counts item.dependencies.items (length items) n b
+  named a b w same counts m = record {
+    is_weak = w;
+    counts = counts;
+    listed = subst (λ (i : SortItem). Contains i.dependencies.items (record { item = b; is_weak = w })) (same_Some m.item item (sym m.at ∙ (ap (λ k. slice_get items k) same ∙ at))) m.listed;
+    within = m.within;
+    other = subst (λ k. b ≢ k) same m.other;
+  }
+
+  pub IsGraphTo-more : IsGraphTo old items n → IsGraphTo new items (n + 1)
+  IsGraphTo-more graph = record {
+    nodes = grows.nodes;
+    once = grows.once graph.once;
+    edges = λ a b. (
+      λ h. elim ((grows.edges a b).0 h) [
+        | inl before ↦ let p = (graph.edges a b).0 before in (omega (arith, p.0), p.1)
+        | inr more ↦ (omega (arith, more.0), weak_or_not a b more.0 more.1)
+      ],
+      λ h. (grows.edges a b).1 (elim (cases_lt a n) [
+        | inl less ↦ inl ((graph.edges a b).1 (less, h.1))
+        | inr last ↦ let same : a ≡ n = omega (arith, h.0, last) in inr (same, named {Counts = λ w. Unit {0}} a b h.1.0 same tt h.1.1)
+      ]),
+    );
+    always = λ a b. (
+      λ h. elim ((grows.always a b).0 h) [
+        | inl before ↦ let p = (graph.always a b).0 before in (omega (arith, p.0), p.1)
+        | inr more ↦ (omega (arith, more.0), strong a b more.0 more.1)
+      ],
+      λ h. (grows.always a b).1 (elim (cases_lt a n) [
+        | inl less ↦ inl ((graph.always a b).1 (less, h.1))
+        | inr last ↦ let same : a ≡ n = omega (arith, h.0, last) in inr (same, named {Counts = λ w. w ≡ false} a b false same refl h.1)
+      ]),
+    );
+  }
+
+Depends-within : (items : List SortItem) (s t : ℕ) → DependsListed items s t → s < length items
+Depends-within items s t d = slice_get_within items s d.1.item d.1.at
+
+pub IsGraphOf-all : (graph : Statements) (items : List SortItem) (n : ℕ) → length items ≤ n → IsGraphTo graph items n → IsItemGraph graph items
+IsGraphOf-all graph items n all to = record {
+  nodes = to.nodes;
+  once = to.once;
+  edges = λ a b. (λ h. ((to.edges a b).0 h).1, λ d. (to.edges a b).1 (omega (arith, all, Depends-within items a b d), d));
+  always = λ a b. (λ h. ((to.always a b).0 h).1, λ m. (to.always a b).1 (omega (arith, all, Depends-within items a b (false, m)), m));
+}
+
+-- each edge leads from an item to another
+pub AreBetween-graph : (graph : Statements) (items : List SortItem) → IsItemGraph graph items → AreBetween graph (length items)
+AreBetween-graph graph items is a b e =
+    let d = (is.edges a b).0 e in
+    (Depends-within items a b d, d.1.within, λ same. d.1.other (sym same))
+
+-- ---- what an item depends on, by its number
+module _ {X Y : Type 0} (rows : X → List Y) where
+  pub row-at : (items : List X) (s : ℕ) (d : Y) → Contains (get_or (map rows items) s []) d → (item : X) × (slice_get items s ≡ Some item) × Contains (rows item) d
+  row-at [] s d c = absurd (Contains-none d c)
+  row-at (x ∷ items) zero d c = (x, refl, c)
+  row-at (x ∷ items) (suc s) d c = row-at items s d c
+
+  pub row-of : (items : List X) (s : ℕ) (item : X) → slice_get items s ≡ Some item → get_or (map rows items) s [] ≡ rows item
+  row-of [] s item e = absurd (none-some item e)
+  row-of (x ∷ items) zero item e = ap rows (same_Some x item e)
+  row-of (x ∷ items) (suc s) item e = row-of items s item e
+
+-- ---- an item that provides a binding is one of the group
+mention-within : (g : Group) (t at : ℕ) (by : Mention) → mention_at g t at ≡ Some by → t < length g.items
+mention-within g t at by e = step (slice_get g.items t) refl e
+  where
+    step : (row : Option (List Mention)) → slice_get g.items t ≡ row → option_and_then (λ (mentions : List Mention). slice_get mentions at) row ≡ Some by → t < length g.items
+    step None f h = absurd (none-some by h)
+    step (Some row) f h = slice_get_within g.items t row f
+
+sets_up-within : (g : Group) (m d t b : ℕ) → SetsUpBy g m d t b → t < length g.items
+sets_up-within g m d t b (by_member by refers at_once chain) = mention-within g t refers.at by refers.there
+sets_up-within g m d t b (by_prototype by refers at_once prototype) = mention-within g t refers.at by refers.there
+sets_up-within g m d t b (by_value without fills first) = mention-within g t fills.refers.at fills.by fills.refers.there
+
+pub provides-within : (g : Group) (t b : ℕ) → Order.Provides g t b → t < length g.items
+provides-within g t b (inl declares) = mention-within g t declares.0 declares.1 declares.2.there
+provides-within g t b (inr sets_up) = sets_up-within g sets_up.which sets_up.first t b sets_up.by
+
+-- ---- whether a dependency is listed
+
+module _ (g : Group) (items : List SortItem) (found : AreFound g (map dependencies_of items)) where
+  pub names : (s t : ℕ) (w : Bool) → HasFound (map dependencies_of items) s t w → Order.Depends g s t → NamesListed items s t w
+  names s t w has depends =
+      let row = row-at dependencies_of items s (record { item = t; is_weak = w }) has in
+      record { item = row.0; at = row.1; listed = row.2; within = (let l = provides-within g t depends.binding depends.provides in let n = found.len in let m = length-map items dependencies_of in omega (arith, l, n, m)); other = λ e. depends.other (sym e) }
+
+  pub has : (s t : ℕ) (w : Bool) → NamesListed items s t w → HasFound (map dependencies_of items) s t w
+  has s t w n = subst (λ (l : List Dependency). Contains l (record { item = t; is_weak = w })) (sym (row-of dependencies_of items s n.item n.at)) n.listed
+
+-- ---- group
+drop-front : {X : Type 0} (xs ys : List X) → drop (length xs) (xs ++ ys) ≡ ys
+drop-front [] ys = refl
+drop-front (x ∷ xs) ys = drop-front xs ys
+
+take-front : {X : Type 0} (xs ys : List X) → take (length xs) (xs ++ ys) ≡ xs
+take-front [] ys = refl
+take-front (x ∷ xs) ys = ap (λ l. x ∷ l) (take-front xs ys)
+
+pub flat-push : (lists : List (List Item)) (x : List Item) → flat (lists ++ x ∷ []) ≡ flat lists ++ x
+flat-push [] x = append-nil x
+flat-push (y ∷ lists) x = ap (λ l. y ++ l) (flat-push lists x) ∙ sym (append_assoc y (flat lists) x)
+
+abbrev placed_at : ℕ → List Item → TopItem
+placed_at start items = record { start = start; items = items }
+
+placed-push : (start : ℕ) (lists : List (List Item)) (x : List Item) → placed start (lists ++ x ∷ []) ≡ placed start lists ++ placed_at (start + length (flat lists)) x ∷ []
+placed-push start [] x = ap (λ n. placed_at n x ∷ []) (let same : start ≡ start + 0 = omega arith in same)
+placed-push start (y ∷ lists) x = ap (λ l. placed_at start y ∷ l) (placed-push (start + length y) lists x ∙ ap (λ n. placed (start + length y) lists ++ placed_at n x ∷ []) (let same : start + length y + length (flat lists) ≡ start + length (y ++ flat lists) = omega (arith, length-append y (flat lists)) in same))
+
+pub begun-push : (lists : List (List Item)) (x : List Item) → begun lists ++ x ≡ begun (lists ++ x ∷ [])
+begun-push lists x = ap (λ (l : List Item). begun [] ++ l) (sym (flat-push lists x))
+
+module _ (lists : List (List Item)) (x : List Item) (range : ItemRange) (from : range.from ≡ length (begun lists)) (to : range.to ≡ length (begun lists) + length x) where
+  around : (rest : List Item) → begun (lists ++ x ∷ []) ++ rest ≡ begun lists ++ (x ++ rest)
+  around rest = ap (λ (l : List Item). l ++ rest) (sym (begun-push lists x)) ∙ append_assoc (begun lists) x rest
+
+  last-cut : (rest : List Item) → slice_range (begun lists ++ (x ++ rest)) range.from range.to ≡ x
+  last-cut rest =
+      ap (λ n. take n (drop range.from (begun lists ++ (x ++ rest)))) (let same : range.to - range.from ≡ length x = omega (arith, from, to) in same)
+      ∙ (ap (λ n. take (length x) (drop n (begun lists ++ (x ++ rest)))) from
+      ∙ (ap (λ l. take (length x) l) (drop-front (begun lists) (x ++ rest)) ∙ take-front x rest))
+
+  pub cut-more : (ranges : List ItemRange) → ((rest : List Item) → cut_items (begun lists ++ rest) ranges ≡ placed 1 lists) → (rest : List Item) → cut_items (begun (lists ++ x ∷ []) ++ rest) (ranges ++ range ∷ []) ≡ placed 1 (lists ++ x ∷ [])
+  cut-more ranges old rest =
+      ap (λ (l : List Item). cut_items l (ranges ++ range ∷ [])) (around rest)
+      ∙ (map-append (cut_item (begun lists ++ (x ++ rest))) ranges (range ∷ [])
+      ∙ (ap (λ (l : List TopItem). l ++ cut_item (begun lists ++ (x ++ rest)) range ∷ []) (old (x ++ rest))
+      ∙ (ap (λ (l : List Item). placed 1 lists ++ placed_at range.from l ∷ []) (last-cut rest)
+      ∙ (ap (λ n. placed 1 lists ++ placed_at n x ∷ []) (let same : range.from ≡ 1 + length (flat lists) = omega (arith, from) in same)
+      ∙ sym (placed-push 1 lists x)))))
 
 -- ---- one item more
 pub chosen-push : (f : Bool) (i : ℕ) (items : List (List Item)) (owners : List ℕ) (x : List Item) (o : ℕ) → length owners ≡ length items → chosen_places f i (items ++ x ∷ []) (owners ++ o ∷ []) ≡ chosen_places f i items owners ++ cond (is_chosen f x) (place_of f (i + length items) o ∷ []) []
@@ -20,8 +397,8 @@ chosen-push f i [] (n ∷ owners) x o e = absurd (omega (arith, e))
 chosen-push f i (y ∷ items) [] x o e = absurd (omega (arith, e))
 chosen-push f i (y ∷ items) (n ∷ owners) x o e = step (is_chosen f y) _ _ _ (chosen-push f (i + 1) items owners x o (omega (arith, e)) ∙ ap (λ j. chosen_places f (i + 1) items owners ++ cond (is_chosen f x) (place_of f j o ∷ []) []) (let same : i + 1 + length items ≡ i + suc (length items) = omega arith in same))
   where
-    step : (b : Bool) (A B C : List Place) → A ≡ B ++ C → cond b (place_of f i n ∷ A) A ≡ cond b (place_of f i n ∷ B) B ++ C
-    step true A B C e = ap (λ (l : List Place). place_of f i n ∷ l) e
+    step : (b : Bool) (A B C : List ItemPlace) → A ≡ B ++ C → cond b (place_of f i n ∷ A) A ≡ cond b (place_of f i n ∷ B) B ++ C
+    step true A B C e = ap (λ (l : List ItemPlace). place_of f i n ∷ l) e
     step false A B C e = e
 
 pub chosen-more : {X : Type 0} (g : X → List Item) (f : Bool) (xs : List X) (owners : List ℕ) (n : ℕ) (x : X) → length owners ≡ length xs → n < length xs → chosen_places f 0 (map g (take (n + 1) xs)) (take (n + 1) owners) ≡ chosen_places f 0 (map g (take n xs)) (take n owners) ++ cond (is_chosen f (g (get_or xs n x))) (place_of f n (get_or owners n 0) ∷ []) []
@@ -53,7 +430,7 @@ chosen-read f before (x ∷ items) (o ∷ owners) i e = step (is_chosen f x) (ch
     (ap (λ (l : List (List Item)). map (numbered_at l) (chosen_places f (i + 1) items owners)) (sym (append_assoc before (x ∷ []) items)) ∙ chosen-read f (before ++ x ∷ []) items owners (i + 1) (let l = length-append before (x ∷ []) in omega (arith, l, e)))
     (ap (λ j. get_or (before ++ x ∷ items) j []) e ∙ read-after before x items)
   where
-    step : (b : Bool) (A : List Place) (B : List Numbered) → map (numbered_at (before ++ x ∷ items)) A ≡ B → get_or (before ++ x ∷ items) i [] ≡ x → map (numbered_at (before ++ x ∷ items)) (cond b (place_of f i o ∷ A) A) ≡ cond b ((x, owner_by (o, f)) ∷ B) B
+    step : (b : Bool) (A : List ItemPlace) (B : List Numbered) → map (numbered_at (before ++ x ∷ items)) A ≡ B → get_or (before ++ x ∷ items) i [] ≡ x → map (numbered_at (before ++ x ∷ items)) (cond b (place_of f i o ∷ A) A) ≡ cond b ((x, owner_by (o, f)) ∷ B) B
     step true A B m h = ap (λ (y : List Item). (y, owner_by (o, f)) ∷ map (numbered_at (before ++ x ∷ items)) A) h ∙ ap (λ (l : List Numbered). (x, owner_by (o, f)) ∷ l) m
     step false A B m h = m
 
@@ -87,7 +464,7 @@ all-read modules =
     ∙ ap (λ (l : List Numbered). owned_items 0 modules ++ l) (chosen-read true [] (joined modules) (owners_of 0 modules) 0 refl ∙ chosen-free 0 modules))
 
 -- ---- each place once
-abbrev ats : List Place → List ℕ
+abbrev ats : List ItemPlace → List ℕ
 ats places = map at_of places
 
 -- where a place of a chosen item lies
@@ -122,7 +499,7 @@ there f i (x ∷ items) (o ∷ owners) (suc j) e l h =
     subst (λ s. Contains (ats (chosen_places f i (x ∷ items) (o ∷ owners))) s) (let same : i + 1 + j ≡ i + suc j = omega arith in same)
     (step (is_chosen f x) (chosen_places f (i + 1) items owners) (there f (i + 1) items owners j (omega (arith, e)) (omega (arith, l)) h))
   where
-    step : (b : Bool) (A : List Place) → Contains (ats A) (i + 1 + j) → Contains (ats (cond b (place_of f i o ∷ A) A)) (i + 1 + j)
+    step : (b : Bool) (A : List ItemPlace) → Contains (ats A) (i + 1 + j) → Contains (ats (cond b (place_of f i o ∷ A) A)) (i + 1 + j)
     step true A c = (Contains-cons i (ats A) (i + 1 + j)).1 (inr c)
     step false A c = c
 
@@ -246,21 +623,71 @@ pub length-owners : {X : Type 0} (k : ℕ) (modules : List (List X)) → length 
 length-owners k [] = refl
 length-owners {X} k (items ∷ rest) = length-append (map (λ (item : X). k) items) (owners_of (k + 1) rest) ∙ (let a = length-map items (λ (item : X). k) in let b = length-owners (k + 1) rest in let c = length-append items (flat_map (λ (items : List X). items) rest) in omega (arith, a, b, c))
 
-pub owners-mapped : {X Y : Type 0} (f : X → Y) (k : ℕ) (modules : List (List X)) → owners_of k (map (λ items. map f items) modules) ≡ owners_of k modules
-owners-mapped f k [] = refl
-owners-mapped {X} {Y} f k (items ∷ rest) = ap (λ (l : List ℕ). l ++ owners_of (k + 1) (map (λ items. map f items) rest)) (one items) ∙ ap (λ (l : List ℕ). map (λ (item : X). k) items ++ l) (owners-mapped f (k + 1) rest)
-  where
-    one : (items : List X) → map (λ (item : Y). k) (map f items) ≡ map (λ (item : X). k) items
-    one [] = refl
-    one (x ∷ items) = ap (λ (l : List ℕ). k ∷ l) (one items)
-
-pub joined-mapped : {X Y : Type 0} (f : X → Y) (modules : List (List X)) → map f (flat_map (λ items. items) modules) ≡ flat_map (λ items. items) (map (λ items. map f items) modules)
-joined-mapped f [] = refl
-joined-mapped {X} {Y} f (items ∷ rest) = map-append f items (flat_map (λ (items : List X). items) rest) ∙ ap (λ (l : List Y). map f items ++ l) (joined-mapped f rest)
-
 -- all places lie in the list
-pub all-within : (items : List (List Item)) (owners : List ℕ) → length owners ≡ length items → (count : ℕ) → length items ≡ count → All (λ (place : Place). place.at < count) (all_places items owners)
+pub all-within : (items : List (List Item)) (owners : List ℕ) → length owners ≡ length items → (count : ℕ) → length items ≡ count → All (λ (place : ItemPlace). place.at < count) (all_places items owners)
 all-within items owners len count same k d l =
     let is = IsArrangement-places items owners len in
     subst (λ n. n < count) (get_or-map at_of (all_places items owners) k d 0 l)
     (let w = is.within k (let m = length-map (all_places items owners) at_of in omega (arith, l, m)) in omega (arith, w, same))
+
+-- ---- owner
+tail : (range : ℕ × ℕ) (rest : List (ℕ × ℕ)) → AreAscending (range ∷ rest) → AreAscending rest
+tail range rest up i j a b l e f = up (suc i) (suc j) a b (omega (arith, l)) e f
+
+outside : (b : Bool) (range : ℕ × ℕ) (n : ℕ) → range.1 ≤ n → (b && ltb n range.1) ≡ false
+outside true range n l = le-ltb n range.1 l
+outside false range n l = refl
+
+early : (range : ℕ × ℕ) (n : ℕ) → n < range.0 → (leb range.0 n && ltb n range.1) ≡ false
+early range n l = ap (λ b. b && ltb n range.1) (lt-leb range.0 n l)
+
+-- a number before all of them is in none
+none-before : (n k : ℕ) (ranges : List (ℕ × ℕ)) → ((i : ℕ) (a : ℕ × ℕ) → slice_get ranges i ≡ Some a → n < a.0) → owner_in n k ranges ≡ None
+none-before n k [] before = refl
+none-before n k (range ∷ rest) before =
+    ap (λ b. cond b (Some k) (owner_in n (k + 1) rest)) (early range n (before zero range refl))
+    ∙ none-before n (k + 1) rest (λ i a e. before (suc i) a e)
+
+pub owner-is : (n k m : ℕ) (ranges : List (ℕ × ℕ)) → AreAscending ranges → ArePast ranges m n → ((range : ℕ × ℕ) → slice_get ranges m ≡ Some range → n < range.1) → owner_in n k ranges ≡ owner_at n (k + m) (slice_get ranges m)
+owner-is n k m [] up past at = refl
+owner-is n k zero (range ∷ rest) up past at =
+    ap (λ o. cond (leb range.0 n && ltb n range.1) (Some k) o) (none-before n (k + 1) rest (λ i a e. let l = up zero (suc i) range a (omega arith) refl e in let h = at range refl in omega (arith, l, h)))
+    ∙ ap (λ j. cond (leb range.0 n && ltb n range.1) (Some j) None) (let same : k ≡ k + 0 = omega arith in same)
+owner-is n k (suc m) (range ∷ rest) up past at =
+    ap (λ b. cond b (Some k) (owner_in n (k + 1) rest)) (outside (leb range.0 n) range n (past zero range (omega arith) refl))
+    ∙ (owner-is n (k + 1) m rest (tail range rest up) (λ i a l e. past (suc i) a (omega (arith, l)) e) at
+    ∙ ap (λ j. owner_at n j (slice_get rest m)) (let same : k + 1 + m ≡ k + suc m = omega arith in same))
+
+-- the owners, one item more
+pub owners-push : (ranges : List (ℕ × ℕ)) (i : ℕ) (lists : List (List Item)) (x : List Item) → owners_by ranges i (lists ++ x ∷ []) ≡ owners_by ranges i lists ++ owner_in (i + length lists) 0 ranges ∷ []
+owners-push ranges i [] x = ap (λ j. owner_in j 0 ranges ∷ []) (let same : i ≡ i + 0 = omega arith in same)
+owners-push ranges i (y ∷ lists) x = ap (λ l. owner_in i 0 ranges ∷ l) (owners-push ranges (i + 1) lists x ∙ ap (λ j. owners_by ranges (i + 1) lists ++ owner_in j 0 ranges ∷ []) (let same : i + 1 + length lists ≡ i + suc (length lists) = omega arith in same))
+
+-- the ends of a range that is read
+pub ends-at : (ranges : List (Range ℕ)) (at : ℕ) (none : Range ℕ) (range : ℕ × ℕ) → slice_get (map ends_of ranges) at ≡ Some range → ends_of (get_or ranges at none) ≡ range
+ends-at [] at none range e = absurd (none-some range e)
+ends-at (x ∷ ranges) zero none range e = same_Some (ends_of x) range e
+ends-at (x ∷ ranges) (suc at) none range e = ends-at ranges at none range e
+
+-- ---- the graph
+module _ (g : Group) (graph : Statements) (items : List SortItem) (is : IsItemGraph graph items) (found : AreFound g (map dependencies_of items)) where
+  always-some : Some Always ≡ Some Maybe → ⊥
+  always-some e = cc
+
+  pub weights : (s t : ℕ) → IsDependency_weight g s t (weight graph s t)
+  weights s t = by (weight graph s t) refl
+    where
+      maybe : (w : Bool) → NamesListed items s t w → weight graph s t ≡ Some Maybe → IsWeak g s t
+      maybe true n e = (found.weak s t).0 (has g items found s t true n)
+      maybe false n e = absurd (always-some (sym ((is.always s t).1 n) ∙ e))
+
+      nothing : (w : Bool) → NamesListed items s t w → weight graph s t ≡ None → ⊥
+      nothing w n e = false≢true (sym (ap is_some e) ∙ (is.edges s t).1 (w, n))
+
+      by : (r : Option Required) → weight graph s t ≡ r → IsDependency_weight g s t r
+      by (Some Always) e = (found.strong s t).0 (has g items found s t false ((is.always s t).0 e))
+      by (Some Maybe) e = let d = (is.edges s t).0 (ap is_some e) in maybe d.0 d.1 e
+      by None e = (
+        λ strong. nothing false (names g items found s t false ((found.strong s t).1 strong) strong.depends) e,
+        λ weak. nothing true (names g items found s t true ((found.weak s t).1 weak) weak.depends) e,
+      )

@@ -1,17 +1,35 @@
+-- The lists of items are the nodes that stand in their module.
 -- What items depend on, where all of their references were found.
-use Rattle.std.proofs.Common.{◌≡◌, ◌≢◌, Bool, true, false, ℕ, ◌⊎◌, List, [], ◌∷◌, get_or, map, Contains, refl, sym, ap, ◌∙◌, subst, inl, inr, arith}
+use Rattle.std.proofs.Common.{◌≡◌, zero, List, [], ◌∷◌, ◌++◌, map, refl, ap, ◌∙◌, append_assoc, Bool, true, false, ℕ, ◌⊎◌, get_or, Contains, sym, subst, inl, inr, arith}
 use Rattle.std.proofs.lemmas.Bool.{true≢false, cases_eq}
 use Rattle.std.proofs.lemmas.List.{length-map}
+use Rattle.bundle_syntax.specs.Item as in_item
+use Rattle.bundle_syntax.specs.Item.{Item}
+use Rattle.bundle_tree_ast.specs.declared.module.ModuleItem.{ModuleItem}
+use Rattle.bundle_rules.specs.Nodes.{parts, side_by_side}
+use Rattle.bundle_rules.specs.Parts.{tree_of_items}
+use Rattle.bundle_rules.specs.Sorting.{flat}
 use Rattle.bundle_order_sort.specs.declared.Reference.{Reference}
 use Rattle.bundle_order_sort.specs.declared.SharedItem.{SharedItem}
-use Rattle.bundle_order_sort.specs.Classes.{Leads}
-use Rattle.bundle_order_sort.specs.Items.{Names, Depends}
+use Rattle.bundle_order_graph.specs.Classes.{Leads}
+use Rattle.bundle_order_sort.specs.Items.{NamesShared, DependsShared}
 use Rattle.bundle_rules.specs.Order as o
 use Rattle.bundle_rules.specs.Order.{Group, IsStrong}
-use Rattle.bundle_order_needs.specs.Found.{AreReferences, HasReference}
-use Rattle.bundle_order_needs.specs.Cut.{references_of}
-use Rattle.bundle_order_needs.proofs.ListLemmas.{Contains-none, Contains-cons}
-use Rattle.bundle_order.proofs.FoundLemmas.{row-at, row-of, provides-within}
+use Rattle.bundle_order_sort.proofs.ElementLemmas.{Contains-none, Contains-cons}
+use Rattle.bundle_tree_listed.specs.Tree.{module_item_items}
+use Rattle.bundle_tree_list.proofs.Modules.{item_single}
+use Rattle.bundle_order.specs.Found.{AreReferences, HasReference}
+use Rattle.bundle_order.specs.Cut.{references_of}
+use Rattle.bundle_order.proofs.NumberingLemmas.{row-at, row-of, provides-within}
+
+-- ---- nodes
+pub whole : (items : List ModuleItem) → parts (tree_of_items (flat (map (module_item_items 0) items))) ≡ map (module_item_items 0) items
+whole [] = refl
+whole (x ∷ items) =
+    let xs = module_item_items 0 x in
+    let rest = flat (map (module_item_items 0) items) in
+    ap (λ (l : List Item). side_by_side zero l) (append_assoc xs rest (in_item.Close ∷ []))
+    ∙ ((item_single 0 x).beside (rest ++ in_item.Close ∷ []) ∙ ap (λ (l : List (List Item)). xs ∷ l) (whole items))
 
 -- ---- whether an item is referred to strongly
 number-or-not : (xs : List ℕ) (t : ℕ) → Contains xs t ⊎ (Contains xs t → ⊥)
@@ -38,7 +56,7 @@ listed-or-not lists t (r ∷ rest) = step r.is_weak refl (number-or-not (get_or 
     step true e here (inr none) = inr (λ h. elim ((Contains-cons r rest (record { list = h.0; is_weak = false })).0 h.1) [ inl f ↦ true≢false (sym e ∙ ap (λ (x : Reference). x.is_weak) f) | inr d ↦ none (h.0, d, h.2) ])
 
 module _ (g : Group) (items : List SharedItem) (lists : List (List ℕ)) (found : AreReferences g (map references_of items) lists) where
-  names : (s t : ℕ) (w : Bool) → HasReference (map references_of items) lists s t w → o.Depends g s t → Names items lists s t w
+  names : (s t : ℕ) (w : Bool) → HasReference (map references_of items) lists s t w → o.Depends g s t → NamesShared items lists s t w
   names s t w h d =
       let row = row-at references_of items s (record { list = h.1.0; is_weak = w }) h.1.1 in
       record {
@@ -49,19 +67,19 @@ module _ (g : Group) (items : List SharedItem) (lists : List (List ℕ)) (found 
         other = h.0;
       }
 
-  has : (s t : ℕ) (w : Bool) → Names items lists s t w → HasReference (map references_of items) lists s t w
+  has : (s t : ℕ) (w : Bool) → NamesShared items lists s t w → HasReference (map references_of items) lists s t w
   has s t w n = (n.other, (n.list, subst (λ (l : List Reference). Contains l (record { list = n.list; is_weak = w })) (sym (row-of references_of items s n.refers.item n.refers.at)) n.refers.listed, n.listed))
 
-  pub Depends-forth : (s t : ℕ) → Depends items lists s t → o.Depends g s t
+  pub Depends-forth : (s t : ℕ) → DependsShared items lists s t → o.Depends g s t
   Depends-forth s t d = (found.depends s t).0 (d.0, has s t d.0 d.1)
 
-  pub Depends-back : (s t : ℕ) → o.Depends g s t → Depends items lists s t
+  pub Depends-back : (s t : ℕ) → o.Depends g s t → DependsShared items lists s t
   Depends-back s t d = let h = (found.depends s t).1 d in (h.0, names s t h.0 h.1 d)
 
-  pub IsStrong-forth : (s t : ℕ) → Names items lists s t false → IsStrong g s t
+  pub IsStrong-forth : (s t : ℕ) → NamesShared items lists s t false → IsStrong g s t
   IsStrong-forth s t n = (found.strong s t).0 (has s t false n)
 
-  pub IsStrong-back : (s t : ℕ) → IsStrong g s t → Names items lists s t false
+  pub IsStrong-back : (s t : ℕ) → IsStrong g s t → NamesShared items lists s t false
   IsStrong-back s t i = names s t false ((found.strong s t).1 i) i.depends
 
   pub strong-or-not : (s t : ℕ) → IsStrong g s t ⊎ (IsStrong g s t → ⊥)

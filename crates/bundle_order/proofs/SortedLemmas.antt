@@ -5,7 +5,7 @@ use Rattle.std.specs.Option.{option_map}
 use Rattle.std.proofs.lemmas.Option.{get_or_from_slice_get, slice_get-map, slice_get-get_or}
 use Rattle.std.proofs.lemmas.List.{length-map, map-append, get_or_default}
 use Rattle.bundle_tree_ast.specs.declared.module.ModuleItem.{ModuleItem}
-use Rattle.bundle_tree_piece.specs.Item.{Item}
+use Rattle.bundle_syntax.specs.Item.{Item}
 use Rattle.bundle_tree_listed.specs.Tree.{module_item_items}
 use Rattle.bundle_rules.specs.Declarations.{ByContext}
 use Rattle.bundle_rules.specs.Scopes.{Top}
@@ -15,23 +15,23 @@ use Rattle.bundle_rules.specs.Order.{Group, IsGoodOrder, group_of}
 use Rattle.bundle_rules.specs.Parts.{tree_of_items}
 use Rattle.bundle_rules.specs.Sorting.{IsSorted, Numbered, flat, group_of_items, numbered_items}
 use Rattle.bundle_rules.specs.Statements.{placed}
-use Rattle.bundle_order_needs.specs.Found.{AreReferences}
-use Rattle.bundle_order_needs.proofs.ListLemmas.{Contains-cons}
-use Rattle.bundle_order_needs.specs.Cut.{references_of}
-use Rattle.bundle_order.specs.declared.number.Place.{Place}
+use Rattle.bundle_order.specs.Found.{AreReferences}
+use Rattle.bundle_order_sort.proofs.ElementLemmas.{Contains-cons}
+use Rattle.bundle_order.specs.Cut.{references_of}
+use Rattle.bundle_order.specs.declared.number.ItemPlace.{ItemPlace}
 use Rattle.bundle_order_sort.specs.Arranged.{AreArranged, IsArrangement}
 use Rattle.bundle_order.specs.Grouped.{group_placed}
 use Rattle.bundle_order.specs.Numbering.{IsOwnOrder, IsSortedBy, all_places, at_of, numbered_at, owners_of}
-use Rattle.bundle_order.specs.Owned.{AreTogether, owner_of}
+use Rattle.bundle_order.specs.Owned.{AreTogether, item_owner}
 use Rattle.bundle_order.proofs.BridgeLemmas.{IsGoodOrder-of_group}
-use Rattle.bundle_order.proofs.NodesLemmas.{whole}
+use Rattle.bundle_order.proofs.ReferenceLemmas.{whole}
 use Rattle.bundle_order.proofs.NumberingLemmas.{IsArrangement-composed, IsArrangement-places, all-read, length-owners}
 use Rattle.bundle_order.proofs.TogetherLemmas.{AreTogether-numbered}
 
-abbrev list_of : ModuleItem → List Item
+abbrev pub list_of : ModuleItem → List Item
 list_of item = module_item_items 0 item
 
-abbrev first_of : Numbered → List Item
+abbrev pub first_of : Numbered → List Item
 first_of one = one.0
 
 abbrev second_of : Numbered → Option ℕ
@@ -43,7 +43,7 @@ at-item [] n l = absurd (omega (arith, l))
 at-item (x ∷ items) zero l = (x, refl)
 at-item (x ∷ items) (suc n) l = at-item items n (omega (arith, l))
 
-drawn : (items : List ModuleItem) (places : List Place) → ((p : ℕ) → Contains (map at_of places) p → p < length items) → (xs : List ModuleItem) × (map list_of xs ≡ map first_of (map (numbered_at (map list_of items)) places))
+drawn : (items : List ModuleItem) (places : List ItemPlace) → ((p : ℕ) → Contains (map at_of places) p → p < length items) → (xs : List ModuleItem) × (map list_of xs ≡ map first_of (map (numbered_at (map list_of items)) places))
 drawn items [] within = ([], refl)
 drawn items (p ∷ places) within =
     let r = at-item items p.at (within p.at ((Contains-cons p.at (map at_of places) p.at).1 (inl refl))) in
@@ -57,16 +57,16 @@ group-same lists owners xs e = subst (λ (l : List (List Item)). group_placed l 
 pub IsGoodOrder-items : (items : List ModuleItem) (owners : List (Option ℕ)) (needs : List SharedItem) (lists : List (List ℕ))
     (numbers : List ℕ) →
     AreReferences (group_placed (map (module_item_items 0) items) owners) (map references_of needs) lists →
-    map owner_of needs ≡ owners →
+    map item_owner needs ≡ owners →
     AreTogether owners →
-    i.IsGoodOrder needs lists numbers →
+    i.IsGoodItemOrder needs lists numbers →
     IsGoodOrder (group_of_items (flat (map (module_item_items 0) items)) owners) numbers
 IsGoodOrder-items items owners needs lists numbers found owned together good =
     subst (λ (g : Group). IsGoodOrder g numbers) (group-same (map list_of items) owners items refl)
     (IsGoodOrder-of_group (group_placed (map list_of items) owners) needs lists found owned together numbers good)
 
 -- ---- what stands at a place
-point : (lists : List (List Item)) (places : List Place) (n : ℕ) → n < length places → ((p : ℕ) → Contains (map at_of places) p → p < length lists) → option_map first_of (slice_get (map (numbered_at lists) places) n) ≡ slice_get lists (get_or (map at_of places) n 0)
+point : (lists : List (List Item)) (places : List ItemPlace) (n : ℕ) → n < length places → ((p : ℕ) → Contains (map at_of places) p → p < length lists) → option_map first_of (slice_get (map (numbered_at lists) places) n) ≡ slice_get lists (get_or (map at_of places) n 0)
 point lists [] n l within = absurd (omega (arith, l))
 point lists (p ∷ places) zero l within = sym (slice_get-get_or lists p.at [] (within p.at ((Contains-cons p.at (map at_of places) p.at).1 (inl refl))))
 point lists (p ∷ places) (suc n) l within = point lists places n (omega (arith, l)) (λ q c. within q ((Contains-cons p.at (map at_of places) q).1 (inr c)))
@@ -75,10 +75,10 @@ each-of : (numbered : List Numbered) (lists : List (List Item)) (places : List �
 each-of numbered lists places [] at = tt
 each-of numbered lists places (n ∷ numbers) at = (at n ((Contains-cons n numbers n).1 (inl refl)), each-of numbered lists places numbers (λ k c. at k ((Contains-cons n numbers k).1 (inr c))))
 
-module _ (modules : List (List (List Item))) (items : List ModuleItem) (owners : List ℕ) (places : List Place) (needs : List SharedItem) (lists : List (List ℕ)) (numbers order : List ℕ) (joined : map list_of items ≡ flat_map (λ items. items) modules) (owned : owners ≡ owners_of 0 modules) (placed_so : places ≡ all_places (map list_of items) owners) (found : AreReferences (group_placed (map first_of (map (numbered_at (map list_of items)) places)) (map second_of (map (numbered_at (map list_of items)) places))) (map references_of needs) lists) (of : map owner_of needs ≡ map second_of (map (numbered_at (map list_of items)) places)) (good : i.IsGoodOrder needs lists numbers) (ordered : order ≡ map (λ n. get_or (map at_of places) n 0) numbers) where
+module _ (modules : List (List (List Item))) (items : List ModuleItem) (owners : List ℕ) (places : List ItemPlace) (needs : List SharedItem) (lists : List (List ℕ)) (numbers order : List ℕ) (joined : map list_of items ≡ flat_map (λ items. items) modules) (owned : owners ≡ owners_of 0 modules) (placed_so : places ≡ all_places (map list_of items) owners) (found : AreReferences (group_placed (map first_of (map (numbered_at (map list_of items)) places)) (map second_of (map (numbered_at (map list_of items)) places))) (map references_of needs) lists) (of : map item_owner needs ≡ map second_of (map (numbered_at (map list_of items)) places)) (good : i.IsGoodItemOrder needs lists numbers) (ordered : order ≡ map (λ n. get_or (map at_of places) n 0) numbers) where
   numbered : map (numbered_at (map list_of items)) places ≡ numbered_items modules
   numbered =
-      ap (λ (l : List Place). map (numbered_at (map list_of items)) l) placed_so
+      ap (λ (l : List ItemPlace). map (numbered_at (map list_of items)) l) placed_so
       ∙ (ap (λ (l : List (List Item)). map (numbered_at l) (all_places l owners)) joined
       ∙ (ap (λ (l : List ℕ). map (numbered_at (flat_map (λ (items : List (List Item)). items) modules)) (all_places (flat_map (λ (items : List (List Item)). items) modules) l)) owned
       ∙ all-read modules))
@@ -87,7 +87,7 @@ module _ (modules : List (List (List Item))) (items : List ModuleItem) (owners :
   len = ap length owned ∙ (length-owners 0 modules ∙ ap length (sym joined))
 
   arranged : IsArrangement (map at_of places) (length (map list_of items))
-  arranged = subst (λ (l : List Place). IsArrangement (map at_of l) (length (map list_of items))) (sym placed_so) (IsArrangement-places (map list_of items) owners len)
+  arranged = subst (λ (l : List ItemPlace). IsArrangement (map at_of l) (length (map list_of items))) (sym placed_so) (IsArrangement-places (map list_of items) owners len)
 
   within : (p : ℕ) → Contains (map at_of places) p → p < length (map list_of items)
   within p c = subst (λ x. x < length (map list_of items)) (get_or_default (map at_of places) c.0 0 p c.1 ∙ c.2) (arranged.within c.0 c.1)
@@ -108,7 +108,7 @@ module _ (modules : List (List (List Item))) (items : List ModuleItem) (owners :
 
   count : length needs ≡ length (map at_of places)
   count =
-      let a = length-map needs owner_of in
+      let a = length-map needs item_owner in
       let b = ap length of in
       let c = length-map (map (numbered_at (map list_of items)) places) second_of in
       let d = length-map places (numbered_at (map list_of items)) in
@@ -185,7 +185,7 @@ IsSorted-all modules joined sorted owners order is owned by arranged =
     IsSorted-arranged all joined order sorted s (arranged (subst (λ n. IsArrangement order n) (length-map joined list_of) s.whole))
 
 -- ---- one module alone
-read-so : (lists : List (List Item)) (places : List Place) → map (λ at. get_or lists at []) (map at_of places) ≡ map first_of (map (numbered_at lists) places)
+read-so : (lists : List (List Item)) (places : List ItemPlace) → map (λ at. get_or lists at []) (map at_of places) ≡ map first_of (map (numbered_at lists) places)
 read-so lists [] = refl
 read-so lists (p ∷ places) = ap (λ (l : List (List Item)). get_or lists p.at [] ∷ l) (read-so lists places)
 

@@ -1,8 +1,8 @@
 -- Items of modules in one list, as they are to be put in order.
 use Rattle.std.specs.Prelude.{◌≡◌, ℕ, ◌<◌, ◌≤◌, ◌&&◌, nat_le, nat_lt, List, ◌∷◌, ◌++◌, Option, Some, None, map, slice_get, if◌then◌else◌}
 use Rattle.std.specs.declared.ops.Range.{Range}
-use Rattle.bundle_tree_piece.specs.Item as h
-use Rattle.bundle_tree_piece.specs.Item.{Item, item_of}
+use Rattle.bundle_syntax.specs.Item as h
+use Rattle.bundle_syntax.specs.Item.{Item, item_of}
 use Rattle.bundle_rules.specs.Declarations.{ByContext}
 use Rattle.bundle_rules.specs.Scopes.{Top}
 use Rattle.bundle_rules.specs.Order as o
@@ -10,8 +10,8 @@ use Rattle.bundle_rules.specs.Order.{group_of}
 use Rattle.bundle_rules.specs.Parts.{tree_of_items}
 use Rattle.bundle_rules.specs.Sorting.{flat}
 use Rattle.bundle_rules.specs.Statements.{placed}
-use Rattle.bundle_order_needs.specs.Cut.{cut_items}
-use Rattle.bundle_order_needs.specs.Owners.{module_of}
+use Rattle.bundle_order.specs.Cut.{cut_items}
+use Rattle.bundle_order.specs.Owners.{range_module}
 use Rattle.bundle_order.specs.declared.group.Group.{Group}
 
 -- the list of a module that is still open, with these items
@@ -22,7 +22,7 @@ begun lists = h.Open 0 h.Module ∷ flat lists
 pub record IsGroup (group : Group) (lists : List (List Item)) (owners : List (Option ℕ)) : Type 0 where
   pub list : map item_of group.list.items ≡ begun lists
   pub cut : (rest : List Item) → cut_items (begun lists ++ rest) group.ranges.items ≡ placed 1 lists
-  pub owned : map module_of group.ranges.items ≡ owners
+  pub owned : map range_module group.ranges.items ≡ owners
 
 -- the group of these items in the words of the definitions, each item where it stands
 abbrev pub group_placed : List (List Item) → List (Option ℕ) → o.Group

@@ -1,3 +1,14 @@
+pub mod Cut
+pub mod Known
+pub mod Numbered
+pub mod Open
+pub mod Owners
+pub mod Seconds
+pub mod Told
+pub mod Found
+pub mod Providing
+pub mod Renumbered
+pub mod Seen
 pub mod Grouped
 pub mod Items
 pub mod Numbering

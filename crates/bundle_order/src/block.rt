@@ -3,7 +3,7 @@
 ghost use Rattle.std.specs.Prelude.{◌≡◌, IfOk, List, length, map};
 ghost use Rattle.std.specs.List.{flat_map};
 ghost use Rattle.bundle_tree_ast.specs.declared.module.ModuleItem.{ModuleItem};
-ghost use Rattle.bundle_tree_piece.specs.Item.{Item, item_of};
+ghost use Rattle.bundle_syntax.specs.Item.{Item, item_of};
 ghost use Rattle.bundle_tree_listed.specs.Tree.{module_item_items};
 ghost use Rattle.bundle_rules.specs.Order.{IsGoodOrder};
 ghost use Rattle.bundle_rules.specs.Sorting.{flat, group_of_items};
@@ -13,8 +13,8 @@ ghost use Rattle.bundle_order.specs.Owned.{AreTogether};
 use crate::group::{group_at, group_of, lists_of};
 use crate::number::{ats_of, places_by, places_of};
 use bundle_order_sort::sort_shared;
+use bundle_syntax::Piece;
 use bundle_tree_ast::ModuleItem;
-use bundle_tree_piece::Piece;
 use std::alloc::{AllocError, Global};
 
 /// The places of the items of several modules in the order in which they are to stand, where these are their lists and

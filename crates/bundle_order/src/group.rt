@@ -1,21 +1,21 @@
 //! Items that are to stand in one order: their list as that of a module, and where each stands in it.
 
 ghost use Rattle.std.specs.Prelude.{◌≡◌, ℕ, ◌+◌, ◌<◌, ◌++◌, ◌∷◌, [], All, IfOk, List, OnOk, Option, length, map, slice_get, slice_range, unwrap_or};
-ghost use Rattle.bundle_tree_piece.specs.Item.{Item, item_of};
+ghost use Rattle.bundle_syntax.specs.Item.{Item, item_of};
 ghost use Rattle.bundle_tree_listed.specs.Tree.{module_item_items};
-ghost use Rattle.bundle_order_needs.specs.Found.{AreFound, AreReferences};
-ghost use Rattle.bundle_order_needs.specs.Cut.{dependencies_of, references_of};
+ghost use Rattle.bundle_order.specs.Found.{AreFound, AreReferences};
+ghost use Rattle.bundle_order.specs.Cut.{dependencies_of, references_of};
 ghost use Rattle.bundle_order.specs.Grouped.{IsGroup, group_placed};
 ghost use Rattle.bundle_order.specs.Numbering.{numbered_at};
-ghost use Rattle.bundle_order.specs.Owned.{owner_of};
+ghost use Rattle.bundle_order.specs.Owned.{item_owner};
 
-use crate::number::Place;
-use bundle_order_needs::{ItemRange, dependencies, references};
+use crate::number::ItemPlace;
+use crate::{ItemRange, dependencies, references};
 use bundle_order_sort::{SharedItem, SortItem};
 use bundle_scope_denote::{ModuleKind, Reading, denotations};
+use bundle_syntax::{Node, Piece};
 use bundle_tree_ast::ModuleItem;
 use bundle_tree_list::pieces;
-use bundle_tree_piece::{Node, Piece};
 use std::alloc::{AllocError, Global};
 
 /// The list of a module with the items that were added, without its end, and where each stands.
@@ -56,7 +56,7 @@ impl<'a> Group<'a> {
         self.ranges.push(ItemRange {
             from,
             to: self.list.len(),
-            module: owner.unwrap_or(0),
+            which: owner.unwrap_or(0),
             is_free: owner.is_none(),
         })?;
         Ok(())
@@ -84,7 +84,7 @@ impl<'a> Group<'a> {
     ) -> Result<(Vec<SharedItem>, Vec<Vec<usize>>), AllocError>
         ensures owned { IfOk result (λ shared.
             (lists : List (List Item)) (owners : List (Option ℕ)) →
-            IsGroup self.entry lists owners → map owner_of shared.0.items ≡ owners) }
+            IsGroup self.entry lists owners → map item_owner shared.0.items ≡ owners) }
         ensures found { IfOk result (λ shared.
             (lists : List (List Item)) (owners : List (Option ℕ)) →
             IsGroup self.entry lists owners →
@@ -102,7 +102,7 @@ impl<'a> Group<'a> {
 pub(crate) fn group_at<'a>(
     alloc: Global,
     lists: &[Vec<Piece<'a>>],
-    places: &[Place],
+    places: &[ItemPlace],
 ) -> Result<Group<'a>, AllocError>
     requires { All (λ place. place.at < length lists.now) places.now }
     ensures { IfOk result (λ group.

@@ -1,166 +1,166 @@
-//! What items depend on, as a graph.
+//! The dependencies between the items of a block.
 
-ghost use Rattle.std.specs.Prelude.{◌≡◌, ◌≢◌, ℕ, ◌<◌, ◌≤◌, ◌↔◌, [], ◌∷◌, IfOk, IfErr, IsTrue, OnOk, Some, length, map, slice_get};
-ghost use Rattle.bundle_tree_piece.specs.Item.{item_of};
-ghost use Rattle.bundle_tree_listed.specs.Tree.{module_item_items};
-ghost use Rattle.bundle_rules.specs.Sorting.{AreDependencies, owners_by};
-ghost use Rattle.bundle_order.specs.Grouped.{AreAscending, ArePast, IsGroup, ends_of, owner_at};
-ghost use Rattle.bundle_order.specs.Items.{how_required, AreApart, AreBetween, AreNodes, Grows, IsGraphOf};
+ghost use Rattle.std.specs.Prelude.{◌≡◌, IfOk, List, length, map};
+ghost use Rattle.bundle_syntax.specs.Item.{Item, item_of};
+ghost use Rattle.bundle_rules.specs.Scopes.{Es, Top};
+ghost use Rattle.bundle_rules.specs.Declarations.{ByContext};
+ghost use Rattle.bundle_rules.specs.Order.{group_of};
+ghost use Rattle.bundle_rules.specs.Parts.{tree_of_items};
+ghost use Rattle.bundle_rules.specs.Sorting.{group_of_items};
+ghost use Rattle.bundle_rules.specs.Statements.{top_items};
+ghost use Rattle.bundle_scope_denote.specs.Listed.{IsOnlyTop, IsDenotationTable};
+ghost use Rattle.bundle_order.specs.Found.{AreFound, AreReferences};
+ghost use Rattle.bundle_order.specs.Cut.{cut_items, dependencies_of, references_of};
+ghost use Rattle.bundle_order.specs.Owners as Owners;
+ghost use Rattle.bundle_order.specs.Owners.{range_owner, shared_owner_of, sorted_owner_of};
 
-use crate::group::{Group, lists_of};
-use bundle_order_graph::sort::{Required, StmtDepGraph};
-use bundle_order_sort::{Dependency, SortItem};
-use bundle_tree_ast::ModuleItem;
-use bundle_tree_names::Error;
-use bundle_tree_piece::Piece;
+use crate::dependencies_among;
+use crate::depends::references_among;
+use crate::walk::seen_in;
+use bundle_order_sort::{Dependency, Reference, SharedItem, SortItem};
+use bundle_scope_denote::Denotations;
+use bundle_syntax::Piece;
 use std::alloc::{AllocError, Global};
-use std::ops::Range;
 
-/// The graph of what the items depend on, by their numbers: an item depends on another where it has a reference
-/// to a name of the top that the other declares or sets up. It is required maybe where the item is not free and
-/// every such reference waits for a function to run, and else always.
+/// An item: the pieces from..to of the list, and its module. Free items belong to none.
+#[derive(Clone, Copy, PartialEq, Eq, Debug)]
+pub struct ItemRange {
+    pub from: usize,
+    pub to: usize,
+    pub which: usize,
+    pub is_free: bool,
+}
+
+/// The items with what they depend on, ascending and each once. The items do not overlap, and `top` is the
+/// number of the scope of the top bindings in the denotations of this list, read by symbol and context.
 ///
-/// A range is one module's items, and an item in none is free. The caller sees to it that the ranges ascend
-/// within the items and do not overlap. Refused only where memory runs out.
-pub fn calc_deps(
+/// An item depends on another where it has a reference to a top binding that the other declares or sets up. The
+/// dependency is weak where the item is not free and every such reference lies in a function, its parameters
+/// included, or in what a field of an instance starts with. Refused only where memory runs out.
+pub fn dependencies<'a>(
     alloc: Global,
-    items: &[ModuleItem],
-    modules: &[Range<usize>],
-) -> Result<StmtDepGraph, Error>
-    ensures nodes { IfOk result (λ graph. AreNodes graph (length items.now)) }
-    ensures edges { IfOk result (λ graph. AreBetween graph (length items.now)) }
-    ensures dependencies { IfOk result (λ graph.
-        AreAscending (map ends_of modules.now) →
-        AreDependencies (map (module_item_items 0) items.now) (map ends_of modules.now) graph) }
-    ensures refused { IfErr result (λ refusal. refusal ≡ Error.OutOfMemory) }
+    pieces: &[Piece<'a>],
+    denotations: &Denotations<'a>,
+    top: usize,
+    items: &[ItemRange],
+) -> Result<Vec<SortItem>, AllocError>
+    ensures owners { IfOk result (λ sorted.
+        map sorted_owner_of sorted.items ≡ map range_owner items.now) }
+    ensures found { IfOk result (λ sorted.
+        IsDenotationTable ByContext Es (map item_of pieces.now) denotations.now →
+        IsOnlyTop denotations.now top →
+        AreFound
+        (group_of ByContext Top (map item_of pieces.now)
+        (cut_items (map item_of pieces.now) items.now) (map Owners.range_module items.now))
+        (map dependencies_of sorted.items)) }
+    ensures whole { IfOk result (λ sorted.
+        (all : List Item) →
+        map item_of pieces.now ≡ tree_of_items all →
+        cut_items (map item_of pieces.now) items.now ≡ top_items (map item_of pieces.now) →
+        IsDenotationTable ByContext Es (map item_of pieces.now) denotations.now →
+        IsOnlyTop denotations.now top →
+        AreFound (group_of_items all (map Owners.range_module items.now))
+        (map dependencies_of sorted.items)) }
 {
-    let lists = lists_of(alloc, items)?;
-    let group = group_by(alloc, &lists, modules)?;
-    let needs = group.dependencies(alloc)?;
-    Ok(graph_of(alloc, &needs)?)
+    let seen = seen_in(alloc, pieces, denotations, top, items)?;
+    let owners = owners_of(alloc, items)?;
+    let found = dependencies_among(alloc, &seen, &owners, denotations.bindings.len())?;
+    let sorted = sort_items(alloc, items, &found)?;
+    Ok(sorted)
 }
 
-// The items with these lists, of the modules that these ranges tell.
-fn group_by<'a>(
+// The module of each item, or none.
+fn owners_of(alloc: Global, items: &[ItemRange]) -> Result<Vec<Option<usize>>, AllocError>
+    ensures { IfOk result (λ owners. owners.items ≡ map Owners.range_module items.now) }
+{
+    let mut owners = Vec::new(alloc);
+    for item in items {
+        owners.push(module_of(*item))?;
+    }
+    Ok(owners)
+}
+
+// The module of an item, or none where it is free.
+fn module_of(item: ItemRange) -> Option<usize>
+    ensures { result ≡ Owners.range_module item }
+{
+    if item.is_free { None } else { Some(item.which) }
+}
+
+// The items with these dependencies.
+fn sort_items(
     alloc: Global,
-    lists: &[Vec<Piece<'a>>],
-    modules: &[Range<usize>],
-) -> Result<Group<'a>, AllocError>
-    ensures len { IfOk result (λ group. length group.ranges.items ≡ length lists.now) }
-    ensures group { IfOk result (λ group.
-        AreAscending (map ends_of modules.now) →
-        IsGroup group (map (λ v. map item_of v.items) lists.now)
-        (owners_by (map ends_of modules.now) 0 (map (λ v. map item_of v.items) lists.now))) }
+    items: &[ItemRange],
+    found: &[Vec<Dependency>],
+) -> Result<Vec<SortItem>, AllocError>
+    requires { length found.now ≡ length items.now }
+    ensures owners { IfOk result (λ sorted.
+        map sorted_owner_of sorted.items ≡ map range_owner items.now) }
+    ensures found { IfOk result (λ sorted.
+        map dependencies_of sorted.items ≡ map (λ v. v.items) found.now) }
 {
-    let mut group = Group::new(alloc)?;
-    let mut module = 0usize;
-    for (number, item) in lists.iter().enumerate() {
-        module = range_from(modules, module, number);
-        group.add(item, module_at(modules, module, number))?;
-    }
-    Ok(group)
-}
-
-// The first range from one on that does not end before a number.
-fn range_from(modules: &[Range<usize>], first: usize, number: usize) -> usize
-    requires { first ≤ length modules.now }
-    ensures within { result ≤ length modules.now }
-    ensures past { ArePast (map ends_of modules.now) first number →
-        ArePast (map ends_of modules.now) result number }
-    ensures at { (range : ℕ × ℕ) →
-        slice_get (map ends_of modules.now) result ≡ Some range → number < range.1 }
-{
-    let mut at = first;
-    while at < modules.len() && modules[at].end <= number {
-        at += 1;
-    }
-    at
-}
-
-// The number of this range, where it holds the item.
-fn module_at(modules: &[Range<usize>], module: usize, number: usize) -> Option<usize>
-    ensures { result
-        ≡ owner_at number «module» (slice_get (map ends_of modules.now) «module») }
-{
-    let range = modules.get(module)?;
-    if range.start <= number && number < range.end {
-        Some(module)
-    } else {
-        None
-    }
-}
-
-// The graph of these dependencies. A number that is no item's, or its own, counts as none.
-fn graph_of(alloc: Global, items: &[SortItem]) -> Result<StmtDepGraph, AllocError>
-    ensures { IfOk result (λ graph. IsGraphOf graph items.now) }
-{
-    let mut graph = graph_with(alloc, items.len())?;
+    let mut sorted = Vec::new(alloc);
     for (number, item) in items.iter().enumerate() {
-        add_edges(&mut graph, number, &item.dependencies, items.len())?;
+        sorted.push(SortItem {
+            which: item.which,
+            is_free: item.is_free,
+            dependencies: Vec::from_slice(alloc, &found[number])?,
+        })?;
     }
-    Ok(graph)
+    Ok(sorted)
 }
 
-// A graph of so many items that do not depend on each other.
-fn graph_with(alloc: Global, count: usize) -> Result<StmtDepGraph, AllocError>
-    ensures { IfOk result (λ graph. AreApart graph count) }
+/// The items with the bindings to which they refer, and for each binding the items that declare it or set it up. The
+/// items do not overlap, and `top` is the number of the scope of the top bindings in the denotations of this list,
+/// read by symbol and context.
+///
+/// An item depends on another where it has a reference to a top binding that the other declares or sets up. The
+/// dependency is weak where the item is not free and every such reference lies in a function, its parameters
+/// included, or in what a field of an instance starts with. Refused only where memory runs out.
+pub fn references<'a>(
+    alloc: Global,
+    pieces: &[Piece<'a>],
+    denotations: &Denotations<'a>,
+    top: usize,
+    items: &[ItemRange],
+) -> Result<(Vec<SharedItem>, Vec<Vec<usize>>), AllocError>
+    ensures owners { IfOk result (λ shared.
+        map shared_owner_of shared.0.items ≡ map range_owner items.now) }
+    ensures found { IfOk result (λ shared.
+        IsDenotationTable ByContext Es (map item_of pieces.now) denotations.now →
+        IsOnlyTop denotations.now top →
+        AreReferences
+        (group_of ByContext Top (map item_of pieces.now)
+        (cut_items (map item_of pieces.now) items.now) (map Owners.range_module items.now))
+        (map references_of shared.0.items) (map (λ v. v.items) shared.1.items)) }
 {
-    let mut graph = StmtDepGraph::new(alloc);
-    for number in 0..count {
-        graph.add_node(number)?;
-    }
-    Ok(graph)
+    let seen = seen_in(alloc, pieces, denotations, top, items)?;
+    let owners = owners_of(alloc, items)?;
+    let found = references_among(alloc, &seen, &owners, denotations.bindings.len())?;
+    let (references, lists) = found;
+    let shared = shared_items(alloc, items, &references)?;
+    Ok((shared, lists))
 }
 
-// Adds what an item depends on of so many items.
-fn add_edges(
-    graph: &mut StmtDepGraph,
-    number: usize,
-    dependencies: &[Dependency],
-    count: usize,
-) -> Result<(), AllocError>
-    requires item { number < count }
-    requires nodes { AreNodes graph.old count }
-    ensures { OnOk result (Grows graph.old graph.new number count dependencies.now) }
+// The items with these references.
+fn shared_items(
+    alloc: Global,
+    items: &[ItemRange],
+    found: &[Vec<Reference>],
+) -> Result<Vec<SharedItem>, AllocError>
+    requires { length found.now ≡ length items.now }
+    ensures owners { IfOk result (λ shared.
+        map shared_owner_of shared.items ≡ map range_owner items.now) }
+    ensures found { IfOk result (λ shared.
+        map references_of shared.items ≡ map (λ v. v.items) found.now) }
 {
-    for dependency in dependencies {
-        add_dependency(graph, number, *dependency, count)?;
+    let mut shared = Vec::new(alloc);
+    for (number, item) in items.iter().enumerate() {
+        shared.push(SharedItem {
+            which: item.which,
+            is_free: item.is_free,
+            references: Vec::from_slice(alloc, &found[number])?,
+        })?;
     }
-    Ok(())
-}
-
-// Adds that an item depends on another, if that is one of so many items.
-fn add_dependency(
-    graph: &mut StmtDepGraph,
-    number: usize,
-    dependency: Dependency,
-    count: usize,
-) -> Result<(), AllocError>
-    requires item { number < count }
-    requires nodes { AreNodes graph.old count }
-    ensures { OnOk result (Grows graph.old graph.new number count (dependency ∷ [])) }
-{
-    if !is_on_another(dependency, number, count) {
-        return Ok(());
-    }
-    graph.add_edge(number, dependency.item, required_by(dependency))?;
-    Ok(())
-}
-
-// Whether an item depends by this on another of so many items.
-fn is_on_another(dependency: Dependency, number: usize, count: usize) -> bool
-    ensures { IsTrue result ↔ ((dependency.item < count) × (dependency.item ≢ number)) }
-{
-    dependency.item < count && dependency.item != number
-}
-
-// How much a dependency is required.
-fn required_by(dependency: Dependency) -> Required
-    ensures { result ≡ how_required dependency.is_weak }
-{
-    if dependency.is_weak {
-        Required::Maybe
-    } else {
-        Required::Always
-    }
+    Ok(shared)
 }

@@ -1,18 +1,18 @@
 //! The numbering of items that are to be sorted: those of modules in their order, and then the free ones.
 
 ghost use Rattle.std.specs.Prelude.{◌≡◌, ℕ, ◌<◌, ◌++◌, ◌∷◌, [], Contains, IfOk, OnOk, cond, length, map, slice_index};
-ghost use Rattle.bundle_tree_piece.specs.Item.{head_of, item_of};
+ghost use Rattle.bundle_syntax.specs.Item.{head_of, item_of};
 ghost use Rattle.bundle_rules.specs.Sorting as sorting;
 ghost use Rattle.bundle_rules.specs.Sorting.{is_injected_head};
 ghost use Rattle.bundle_order.specs.Numbering as numbering;
 ghost use Rattle.bundle_order.specs.Numbering.{all_places, at_of, chosen_places, place_of};
 
-use bundle_tree_piece::{Node, Piece};
+use bundle_syntax::{Node, Piece};
 use std::alloc::{AllocError, Global};
 
 /// An item's place among all, and its module, or none where it is free.
 #[derive(Clone, Copy)]
-pub(crate) struct Place {
+pub(crate) struct ItemPlace {
     pub(crate) at: usize,
     pub(crate) owner: Option<usize>,
 }
@@ -23,7 +23,7 @@ pub(crate) fn places_of<'a>(
     alloc: Global,
     lists: &[Vec<Piece<'a>>],
     owners: &[usize],
-) -> Result<Vec<Place>, AllocError>
+) -> Result<Vec<ItemPlace>, AllocError>
     requires { length owners.now ≡ length lists.now }
     ensures { IfOk result (λ places.
         places.items ≡ all_places (map (λ v. map item_of v.items) lists.now) owners.now) }
@@ -36,7 +36,7 @@ pub(crate) fn places_of<'a>(
 
 // Adds the places of the free items, or of the others.
 fn add_places<'a>(
-    places: &mut Vec<Place>,
+    places: &mut Vec<ItemPlace>,
     lists: &[Vec<Piece<'a>>],
     owners: &[usize],
     are_free: bool,
@@ -55,7 +55,7 @@ fn add_places<'a>(
 
 // Adds the place of an item of a module, if it is one of those.
 fn add_place<'a>(
-    places: &mut Vec<Place>,
+    places: &mut Vec<ItemPlace>,
     item: &[Piece<'a>],
     at: usize,
     number: usize,
@@ -75,11 +75,11 @@ fn add_place<'a>(
 }
 
 // The place of an item of a module, which may be free.
-fn place_at(at: usize, number: usize, are_free: bool) -> Place
+fn place_at(at: usize, number: usize, are_free: bool) -> ItemPlace
     ensures { result ≡ place_of are_free at number }
 {
     let owner = if are_free { None } else { Some(number) };
-    Place { at, owner }
+    ItemPlace { at, owner }
 }
 
 // Whether an item is one of the free ones, or one of the others.
@@ -118,7 +118,7 @@ fn is_noted<'a>(node: Node<'a>) -> bool
 /// The places of items, in an order of their numbers.
 pub(crate) fn places_by(
     alloc: Global,
-    places: &[Place],
+    places: &[ItemPlace],
     numbers: &[usize],
 ) -> Result<Vec<usize>, AllocError>
     requires { (n : ℕ) → Contains numbers.now n → n < length places.now }
@@ -133,7 +133,7 @@ pub(crate) fn places_by(
 }
 
 // The place of the item with a number.
-fn at_number(places: &[Place], number: usize) -> usize
+fn at_number(places: &[ItemPlace], number: usize) -> usize
     requires { number < length places.now }
     ensures { result ≡ slice_index (map at_of places.now) number }
 {
@@ -141,7 +141,7 @@ fn at_number(places: &[Place], number: usize) -> usize
 }
 
 /// The places of items, in the order of their numbers.
-pub(crate) fn ats_of(alloc: Global, places: &[Place]) -> Result<Vec<usize>, AllocError>
+pub(crate) fn ats_of(alloc: Global, places: &[ItemPlace]) -> Result<Vec<usize>, AllocError>
     ensures { IfOk result (λ order. order.items ≡ map at_of places.now) }
 {
     places.iter().map(|place| place.at).collect(alloc)

@@ -2,7 +2,7 @@
 
 ghost use Rattle.std.specs.Prelude.{◌≡◌, ℕ, ◌++◌, ◌∷◌, [], IfErr, IfOk, IsPermutation, List, OnErr, OnOk, length, map};
 ghost use Rattle.std.specs.List.{flat_map};
-ghost use Rattle.bundle_tree_piece.specs.Item.{Item};
+ghost use Rattle.bundle_syntax.specs.Item.{Item};
 ghost use Rattle.bundle_tree_listed.specs.Tree.{module_item_items};
 ghost use Rattle.bundle_rules.specs.Sorting.{IsSorted, numbered_items};
 ghost use Rattle.bundle_order.specs.Numbering.{IsOwnOrder, IsSortedBy, owners_of};

@@ -5,14 +5,13 @@ use Rattle.std.proofs.lemmas.Bool.{cases_eq}
 use Rattle.std.proofs.lemmas.List.{append_assoc, drop_more, drop_all, get_or_default, get_or-drop, length-drop, length-take, get_or-take, take_more, append-nil}
 use Rattle.std.proofs.lemmas.List.Elements.{Contains-get_or, Contains-append_left, Contains-push, Contains-push_cases}
 use Rattle.bundle_order_graph.specs.Walks.{Reaches, itself, along, Path}
-use Rattle.bundle_order_graph.specs.Bits.{HasBit, Both, BothAt, IsEdge, IsEdgeAt, IsLast, IsNotLast, IsWithin}
+use Rattle.bundle_order_graph.specs.Bits.{IsEdge, IsEdgeAt, IsWithin}
 use Rattle.bundle_order_graph.specs.Nodes.{added, place}
 use Rattle.bundle_order_graph.specs.Modules.{Modules, deps, Requests}
-use Rattle.bundle_order_graph.specs.Order.{IsOrder}
-use Rattle.bundle_order_graph.specs.Blocks.{SharesBlock, Members, nothing, kept, left, BlocksOf, over, ends, goes_on, AreBlocks}
+use Rattle.bundle_order_graph.specs.Blocks.{Members, nothing, kept, left, BlocksOf, over, ends, goes_on}
 use Rattle.bundle_order_graph.proofs.NodeLemmas.{place-contains, place-read, position-Some_place, position-None_place, added-out}
 use Rattle.bundle_order_graph.proofs.OrderLemmas.{Contains-head, Contains-tail, absent}
-use Rattle.bundle_order_graph.proofs.ListLemmas.{same_index, place-index}
+use Rattle.bundle_order_graph.proofs.ListLemmas.{same_index}
 
 -- ---- members and blocks, from the front of the list
 module _ (Has : ℕ → Type 0) (list : List ℕ) (i : ℕ) (done : List ℕ) (within : i < length list) (so_far : (ys : List ℕ) → Members Has (drop i list) ys → Members Has list (done ++ ys)) where
@@ -40,34 +39,14 @@ pub blocks_done : (S : ℕ → ℕ → Type 0) (list : List ℕ) (i : ℕ) (done
 blocks_done S list i done past so_far = subst (λ (l : List (List ℕ)). BlocksOf S list list l) (append-nil done) (so_far [] (subst (λ (l : List ℕ). BlocksOf S list l []) (sym (drop_all i list past)) over))
 
 -- ---- places
-module _ (rows : List (List ℕ)) (list : List ℕ) (once : IsDistinct nat_eq list) where
-  -- two modules of the list share rows as their places do
-  pub both_places : (i j : ℕ) → i < length list → j < length list → BothAt rows list (get_or list i 0) (get_or list j 0) ↔ Both rows i j
-  both_places i j l m =
-      let p = place-index list once i l in
-      let q = place-index list once j m in
-      (λ h. subst (λ y. Both rows i y) q (subst (λ x. Both rows x (place list (get_or list j 0))) p h), λ h. subst (λ x. Both rows x (place list (get_or list j 0))) (sym p) (subst (λ y. Both rows i y) (sym q) h))
+pub later_place : (list : List ℕ) (i y : ℕ) → Contains (drop (i + 1) list) y → (k : ℕ) × (i < k) × (k < length list) × (get_or list k 0 ≡ y)
+later_place list i y c = (i + 1 + c.0, omega arith, omega (arith, c.1, length-drop (i + 1) list), get_or_default list (i + 1 + c.0) 0 y (omega (arith, c.1, length-drop (i + 1) list)) ∙ (sym (get_or-drop (i + 1) list c.0 y) ∙ c.2))
 
-  later_place : (i y : ℕ) → Contains (drop (i + 1) list) y → (k : ℕ) × (i < k) × (k < length list) × (get_or list k 0 ≡ y)
-  later_place i y c = (i + 1 + c.0, omega arith, omega (arith, c.1, length-drop (i + 1) list), get_or_default list (i + 1 + c.0) 0 y (omega (arith, c.1, length-drop (i + 1) list)) ∙ (sym (get_or-drop (i + 1) list c.0 y) ∙ c.2))
-
-  pub last_ends : (i : ℕ) → i < length list → IsLast rows (length list) i → BothAt rows list (get_or list i 0) (get_or list i 0) × ((y : ℕ) → Contains (drop (i + 1) list) y → BothAt rows list (get_or list i 0) y → ⊥)
-  last_ends i l e = (
-    (both_places i i l l).1 (e.own, e.own),
-    λ y c h.
-        let k = later_place i y c in
-        e.none_later k.0 k.1 k.2 ((both_places i k.0 l k.2).0 (subst (λ x. BothAt rows list (get_or list i 0) x) (sym k.3) h)),
-  )
-
-  pub not_last_goes_on : (i : ℕ) → i < length list → IsNotLast rows (length list) i → (BothAt rows list (get_or list i 0) (get_or list i 0) → ⊥) ⊎ ((y : ℕ) × Contains (drop (i + 1) list) y × BothAt rows list (get_or list i 0) y)
-  not_last_goes_on i l (inl none) = inl (λ h. none ((both_places i i l l).0 h).0)
-  not_last_goes_on i l (inr k) = inr (get_or list k.0 0, (k.0 - (i + 1), omega (arith, length-drop (i + 1) list, k.1, k.2), at), (both_places i k.0 l k.2).1 k.3)
-    where
-      at : get_or (drop (i + 1) list) (k.0 - (i + 1)) (get_or list k.0 0) ≡ get_or list k.0 0
-      at = get_or-drop (i + 1) list (k.0 - (i + 1)) (get_or list k.0 0) ∙ (ap (λ n. get_or list n (get_or list k.0 0)) (omega (arith, k.1)) ∙ get_or_default list k.0 (get_or list k.0 0) 0 k.2)
+pub place_later : (list : List ℕ) (i k : ℕ) → i < k → k < length list → Contains (drop (i + 1) list) (get_or list k 0)
+place_later list i k a b = (k - (i + 1), omega (arith, length-drop (i + 1) list, a, b), get_or-drop (i + 1) list (k - (i + 1)) (get_or list k 0) ∙ (ap (λ n. get_or list n (get_or list k 0)) (omega (arith, a)) ∙ get_or_default list k (get_or list k 0) 0 b))
 
 -- ---- blocks by another relation that agrees on the list
-Members-agree : {P Q : ℕ → Type 0} {xs ys : List ℕ} → ((x : ℕ) → Contains xs x → P x ↔ Q x) → Members P xs ys → Members Q xs ys
+pub Members-agree : {P Q : ℕ → Type 0} {xs ys : List ℕ} → ((x : ℕ) → Contains xs x → P x ↔ Q x) → Members P xs ys → Members Q xs ys
 Members-agree same nothing = nothing
 Members-agree same (kept {x} {xs} h m) = kept ((same x (Contains-head xs x)).0 h) (Members-agree (λ y c. same y (Contains-tail xs x y c)) m)
 Members-agree same (left {x} {xs} h m) = left (λ q. h ((same x (Contains-head xs x)).1 q)) (Members-agree (λ y c. same y (Contains-tail xs x y c)) m)
@@ -108,33 +87,6 @@ module _ (g : Modules) (list : List ℕ) (once : IsDistinct nat_eq list) (closed
   walk_places i j l m p =
       let k = edge_places i l p.0 p.1 in
       (k.0, k.1, reaches_places p.2 k.0 j k.2 m k.3 refl)
-
-reaches_further : {E : ℕ → ℕ → Type 0} {a b c : ℕ} → Reaches E a b → E b c → Reaches E a c
-reaches_further itself e = along e itself
-reaches_further (along f r) e = along f (reaches_further r e)
-
--- the rows of the places give the blocks of the list
-pub blocks_by_rows : (g : Modules) (entry : ℕ) (list : List ℕ) → IsOrder g entry list → (edges : List (ℕ × ℕ)) → ((i j : ℕ) → IsEdge edges i j ↔ IsEdgeAt g list i j) → (rows : List (List ℕ)) → ((i j : ℕ) → HasBit rows i j ↔ Path (IsEdge edges) i j) → (blocks : List (List ℕ)) → BlocksOf (BothAt rows list) list list blocks → AreBlocks g entry blocks
-blocks_by_rows g entry list o edges exact rows bits blocks b other p =
-    subst (λ (l : List ℕ). BlocksOf (SharesBlock g) l l blocks) (sym (o.only other p.made)) (BlocksOf-agree agree (λ x c. c) b)
-  where
-    closed : (x y : ℕ) → Contains list x → Requests g x y → Contains list y
-    closed x y c e = (o.reached y).1 (reaches_further ((o.reached x).0 c) e)
-
-    one : (x y : ℕ) → Contains list x → Contains list y → HasBit rows (place list x) (place list y) ↔ Path (Requests g) x y
-    one x y c d =
-        let i = place list x in
-        let j = place list y in
-        let l = place-contains list x c in
-        let m = place-contains list y d in
-        let p = place-read list x 0 l in
-        let q = place-read list y 0 m in (
-          λ h. subst (λ z. Path (Requests g) z y) p (subst (λ z. Path (Requests g) (get_or list i 0) z) q (walk_modules g list o.once closed edges exact i j ((bits i j).0 h))),
-          λ w. (bits i j).1 (walk_places g list o.once closed edges exact i j l m (subst (λ z. Path (Requests g) z (get_or list j 0)) (sym p) (subst (λ z. Path (Requests g) x z) (sym q) w))),
-        )
-
-    agree : (x y : ℕ) → Contains list x → Contains list y → BothAt rows list x y ↔ SharesBlock g x y
-    agree x y c d = (λ h. ((one x y c d).0 h.0, (one y x d c).0 h.1), λ h. ((one x y c d).1 h.0, (one y x d c).1 h.1))
 
 -- ---- the edges among the modules of a list
 -- all edges from places before `from` are there, and those of `from` to its first k dependencies

@@ -1,11 +1,15 @@
 pub mod BitLemmas
+pub mod ClassLemmas
 pub mod CycleLemmas
+pub mod LeadLemmas
 pub mod ListLemmas
 pub mod ModuleLemmas
 pub mod NodeLemmas
 pub mod OrderLemmas
+pub mod RankingLemmas
 pub mod RowLemmas
 pub mod StatementLemmas
 pub mod SweepLemmas
+pub mod WalkingLemmas
 pub mod WalkLemmas
 pub mod WorkLemmas

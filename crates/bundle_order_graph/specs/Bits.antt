@@ -1,9 +1,7 @@
 -- Rows of bits: position p of a row is bit p % 64 of its word p / 64, and words that are missing are 0.
-use Rattle.std.specs.Prelude.{◌≡◌, ◌≢◌, ℕ, ◌+◌, ◌-◌, ◌/◌, ◌%◌, ◌^◌, ◌<◌, ◌≤◌, ◌⊎◌, ◌↔◌, List, [], length, sum_by, slice_index, slice_index_or, Contains}
+use Rattle.std.specs.Prelude.{◌≡◌, ◌≢◌, ℕ, ◌-◌, ◌/◌, ◌%◌, ◌^◌, ◌<◌, ◌≤◌, ◌⊎◌, ◌↔◌, List, [], length, sum_by, slice_index, slice_index_or, Contains}
 use Rattle.std.specs.Int.{bit_at}
 use Rattle.bundle_order_graph.specs.Modules.{Modules, Requests}
-use Rattle.bundle_order_graph.specs.Nodes.{place}
-use Rattle.bundle_order_graph.specs.Walks.{Path}
 
 -- position p is in the row
 unfoldable pub Has : List ℕ → ℕ → Type 0
@@ -60,49 +58,12 @@ IsEdge edges i j = Contains edges (i, j)
 abbrev pub IsWithin : ℕ → ℕ × ℕ → Type 0
 IsWithin n edge = (edge.0 < n) × (edge.1 < n)
 
--- each row has as many words as all positions need
-abbrev pub AreWide : List (List ℕ) → Type 0
-AreWide rows = (i : ℕ) → i < length rows → length (row_at rows i) ≡ length rows / 64 + 1
-
--- the row at the start of the edge has its end, and all that the row at the end has
-pub record Follows (rows : List (List ℕ)) (edge : ℕ × ℕ) : Type 0 where
-  pub end : HasBit rows edge.0 edge.1
-  pub beyond : (j : ℕ) → HasBit rows edge.1 j → HasBit rows edge.0 j
-
--- the rows have only what walks along the edges reach
-abbrev pub IsSound : List (ℕ × ℕ) → List (List ℕ) → Type 0
-IsSound edges rows = (i j : ℕ) → HasBit rows i j → Path (IsEdge edges) i j
-
 -- the row of i gains position to, and all that the row of to has; nothing else changes, and no row changes its length
 pub record Absorbs (old : List (List ℕ)) (at to : ℕ) (new : List (List ℕ)) : Type 0 where
   pub len : length new ≡ length old
   pub lens : (i : ℕ) → length (row_at new i) ≡ length (row_at old i)
   pub others : (i j : ℕ) → i ≢ at → HasBit new i j ↔ HasBit old i j
   pub own : (j : ℕ) → HasBit new at j ↔ (HasBit old at j ⊎ ((j ≡ to) ⊎ HasBit old to j))
-
--- a sweep over the edges adds only what walks along them reach, and no row changes its length
-pub record Keeps (edges : List (ℕ × ℕ)) (old new : List (List ℕ)) : Type 0 where
-  pub len : length new ≡ length old
-  pub wide : AreWide new
-  pub sound : IsSound edges old → IsSound edges new
-  pub smaller : room new ≤ room old
-
--- two positions are in each other's rows
-abbrev pub Both : List (List ℕ) → ℕ → ℕ → Type 0
-Both rows i j = HasBit rows i j × HasBit rows j i
-
--- the position is in its own row, and shares a row both ways with none from it up to count
-pub record IsLast (rows : List (List ℕ)) (count i : ℕ) : Type 0 where
-  pub own : HasBit rows i i
-  pub none_later : (k : ℕ) → i < k → k < count → Both rows i k → ⊥
-
--- it is not in its own row, or one from it up to count shares both ways
-abbrev pub IsNotLast : List (List ℕ) → ℕ → ℕ → Type 0
-IsNotLast rows count i = (HasBit rows i i → ⊥) ⊎ ((k : ℕ) × (i < k) × (k < count) × Both rows i k)
-
--- the modules x and y stand at two such positions
-abbrev pub BothAt : List (List ℕ) → List ℕ → ℕ → ℕ → Type 0
-BothAt rows list x y = Both rows (place list x) (place list y)
 
 -- an edge leads from the module at i to the one at j
 pub record IsEdgeAt (g : Modules) (list : List ℕ) (i j : ℕ) : Type 0 where

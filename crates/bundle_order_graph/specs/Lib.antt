@@ -1,8 +1,10 @@
 pub mod Bits
 pub mod Blocks
+pub mod Classes
 pub mod Modules
 pub mod Nodes
 pub mod Order
+pub mod Ranked
 pub mod Reached
 pub mod Statements
 pub mod Walks

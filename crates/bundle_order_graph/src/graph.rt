@@ -1,15 +1,17 @@
 //! Which module requests which.
 
-ghost use Rattle.std.specs.Prelude.{◌≡◌, ◌≢◌, [], ℕ, ◌+◌, ◌<◌, ◌≤◌, ◌↔◌, nat_eq, All, Contains, IsTrue, IfOk, OnOk, OnErr, MatchBool, map, slice_index, length};
-ghost use Rattle.bundle_order_graph.specs.Bits.{Both, BothAt, IsEdge, IsEdgeAt, IsLast, IsNotLast};
+ghost use Rattle.std.specs.Prelude.{◌≡◌, [], ℕ, ◌<◌, ◌↔◌, nat_eq, All, Contains, IfOk, OnOk, OnErr, MatchBool, map, slice_index, slice_index_or, length};
+ghost use Rattle.bundle_order_graph.specs.Bits.{IsEdge, IsEdgeAt, IsWithin};
 ghost use Rattle.bundle_order_graph.specs.Blocks.{AreBlocks, BlocksOf, Members};
+ghost use Rattle.bundle_order_graph.specs.Classes.{AreRanks, AreWithin, Leads};
+ghost use Rattle.bundle_order_graph.specs.Ranked.{AreAlike, AreLasts, AreSmall, EndsBlock, EndsNone, HasRank};
 ghost use Rattle.std.specs.List.{IsDistinct};
 ghost use Rattle.std.specs.List.Sorted.{IsStrictlyIncreasing};
 ghost use Rattle.bundle_order_graph.specs.Order.{IsOrder};
 ghost use Rattle.bundle_order_graph.specs.Modules.{Requests};
 ghost use Rattle.bundle_order_graph.specs.Walks.{Reaches};
 
-use crate::rows::Rows;
+use crate::classes::ranks_of;
 use bundle_tree_names::ModuleId;
 use indexmap::IndexSet;
 use std::alloc::{AllocError, Global};
@@ -190,9 +192,10 @@ pub fn cycles(
         AreBlocks graph.now entry (map (λ b. b.items) blocks.items)) }
 {
     let list = order(alloc, graph, entry)?;
-    let edges = edges_between(alloc, graph, &list)?;
-    let rows = Rows::reached_by(alloc, list.len(), &edges)?;
-    blocks_of(alloc, &rows, &list)
+    let pairs = edges_between(alloc, graph, &list)?;
+    let edges = ends_of(alloc, list.len(), &pairs)?;
+    let ranks = ranks_of(alloc, &edges)?;
+    blocks_of(alloc, &edges, &ranks, &list)
 }
 
 /// The edges among the modules of a list, by their places.
@@ -221,71 +224,120 @@ fn edges_between(
     Ok(edges)
 }
 
-/// The blocks of a list, by the rows of its places.
+/// For each of so many places the ends of the edges that leave it.
+fn ends_of(
+    alloc: Global,
+    count: usize,
+    pairs: &[(usize, usize)],
+) -> Result<Vec<Vec<usize>>, AllocError>
+    requires { All (IsWithin count) pairs.now }
+    ensures len { IfOk result (λ edges. length edges.items ≡ count) }
+    ensures exact { IfOk result (λ edges.
+        (i j : ℕ) → Leads (map (λ v. v.items) edges.items) i j ↔ IsEdge pairs.now i j) }
+{
+    let mut edges: Vec<Vec<usize>> = Vec::new(alloc);
+    for _ in 0..count {
+        edges.push(Vec::new(alloc))?;
+    }
+    for pair in pairs {
+        edges[pair.0].push(pair.1)?;
+    }
+    Ok(edges)
+}
+
+/// The blocks of a list, by the ranks of its places: those of one rank lead to each other.
 fn blocks_of(
     alloc: Global,
-    rows: &Rows,
+    edges: &[Vec<usize>],
+    ranks: &[usize],
     list: &[ModuleId],
 ) -> Result<Vec<Vec<ModuleId>>, AllocError>
-    requires len { length rows.now ≡ length list.now }
+    requires len { length ranks.now ≡ length list.now }
+    requires within { AreWithin (map (λ v. v.items) edges.now) }
+    requires ranks { AreRanks (map (λ v. v.items) edges.now) ranks.now }
     requires once { IsDistinct nat_eq list.now }
     ensures { IfOk result (λ blocks.
-        BlocksOf (BothAt rows.now list.now) list.now list.now (map (λ b. b.items) blocks.items)) }
+        BlocksOf (AreAlike (map (λ v. v.items) edges.now) ranks.now list.now) list.now list.now
+        (map (λ b. b.items) blocks.items)) }
 {
+    let classes = classes_of(alloc, ranks, list)?;
+    let lasts = lasts_of(alloc, ranks)?;
     let mut blocks = Vec::new(alloc);
     for last in 0..list.len() {
-        if ends_block(rows, list.len(), last) {
-            let block = members(alloc, rows, list, last)?;
+        if ends_block(edges, ranks, &lasts, last) {
+            let class = &classes[ranks[last]];
+            let mut block = Vec::new(alloc);
+            block.extend_from_slice(class)?;
             blocks.push(block)?;
         }
     }
     Ok(blocks)
 }
 
-/// Whether two places reach each other, by at least one edge each way.
-fn share_block(rows: &Rows, one: usize, other: usize) -> bool
-    requires one_in { one < length rows.now }
-    requires other_in { other < length rows.now }
-    ensures { IsTrue result ↔ Both rows.now one other }
+/// The modules of each rank, in the order of the list.
+fn classes_of(
+    alloc: Global,
+    ranks: &[usize],
+    list: &[ModuleId],
+) -> Result<Vec<Vec<ModuleId>>, AllocError>
+    requires len { length ranks.now ≡ length list.now }
+    requires small { AreSmall ranks.now }
+    requires once { IsDistinct nat_eq list.now }
+    ensures len { IfOk result (λ classes. length classes.items ≡ length list.now) }
+    ensures each { IfOk result (λ classes.
+        (rank : ℕ) →
+        rank < length list.now →
+        Members (HasRank ranks.now list.now rank) list.now
+        (slice_index_or (map (λ b. b.items) classes.items) rank [])) }
 {
-    rows.has(one, other) && rows.has(other, one)
+    let mut classes: Vec<Vec<ModuleId>> = Vec::new(alloc);
+    for _ in 0..list.len() {
+        classes.push(Vec::new(alloc))?;
+    }
+    for (at, module) in list.iter().enumerate() {
+        classes[ranks[at]].push(*module)?;
+    }
+    Ok(classes)
+}
+
+/// The last place of each rank.
+fn lasts_of(alloc: Global, ranks: &[usize]) -> Result<Vec<usize>, AllocError>
+    requires { AreSmall ranks.now }
+    ensures len { IfOk result (λ lasts. length lasts.items ≡ length ranks.now) }
+    ensures each { IfOk result (λ lasts. AreLasts ranks.now lasts.items) }
+{
+    let mut lasts = vec![in alloc; 0usize; ranks.len()]?;
+    for (at, rank) in ranks.iter().enumerate() {
+        lasts[*rank] = at;
+    }
+    Ok(lasts)
 }
 
 /// Whether a place is on a cycle and no later one shares its block.
-fn ends_block(rows: &Rows, count: usize, last: usize) -> bool
-    requires count_in { count ≤ length rows.now }
-    requires last_in { last < count }
-    ensures { MatchBool result (IsLast rows.now count last) (IsNotLast rows.now count last) }
+fn ends_block(edges: &[Vec<usize>], ranks: &[usize], lasts: &[usize], at: usize) -> bool
+    requires edges_len { length edges.now ≡ length ranks.now }
+    requires lasts_len { length lasts.now ≡ length ranks.now }
+    requires within { AreWithin (map (λ v. v.items) edges.now) }
+    requires small { AreSmall ranks.now }
+    requires lasts { AreLasts ranks.now lasts.now }
+    requires at_in { at < length ranks.now }
+    ensures { MatchBool result (EndsBlock (map (λ v. v.items) edges.now) ranks.now at)
+        (EndsNone (map (λ v. v.items) edges.now) ranks.now at) }
 {
-    if !rows.has(last, last) {
-        return false;
-    }
-    for later in last + 1..count {
-        if share_block(rows, last, later) {
-            return false;
-        }
-    }
-    true
+    lasts[ranks[at]] == at && has_rank(&edges[at], ranks, ranks[at])
 }
 
-/// The modules that share the block of a place, in the order of the list.
-fn members(
-    alloc: Global,
-    rows: &Rows,
-    list: &[ModuleId],
-    last: usize,
-) -> Result<Vec<ModuleId>, AllocError>
-    requires len { length rows.now ≡ length list.now }
-    requires once { IsDistinct nat_eq list.now }
-    requires last_in { last < length list.now }
-    ensures { IfOk result (λ block.
-        Members (BothAt rows.now list.now (slice_index list.now last)) list.now block.items) }
+/// Whether one of these places has a rank.
+fn has_rank(places: &[usize], ranks: &[usize], rank: usize) -> bool
+    requires { (t : ℕ) → Contains places.now t → t < length ranks.now }
+    ensures { MatchBool result
+        ((t : ℕ) × Contains places.now t × (slice_index ranks.now t ≡ rank))
+        (((t : ℕ) × Contains places.now t × (slice_index ranks.now t ≡ rank)) → ⊥) }
 {
-    let mut members = Vec::new(alloc);
-    for (at, module) in list.iter().enumerate() {
-        if share_block(rows, last, at) {
-            members.push(*module)?;
+    for place in places {
+        if ranks[*place] == rank {
+            return true;
         }
     }
-    Ok(members)
+    false
 }

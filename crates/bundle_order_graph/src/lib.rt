@@ -2,6 +2,7 @@
 //! blocks, and exact reachability between statements.
 #![tactic(auto)]
 
+pub mod classes;
 pub mod graph;
 pub(crate) mod rows;
 pub mod sort;

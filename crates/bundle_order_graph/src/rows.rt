@@ -1,8 +1,7 @@
 //! Which positions each position reaches, one bit for each pair.
 
-ghost use Rattle.std.specs.Prelude.{◌≡◌, ◌≢◌, ℕ, ◌+◌, ◌/◌, ◌<◌, ◌≤◌, ◌⊎◌, ◌↔◌, max, [], ◌∷◌, ◌++◌, length, All, IsTrue, MatchBool, IfOk, OnOk, OnErr};
-ghost use Rattle.bundle_order_graph.specs.Bits.{Has, SameRow, row_room, row_at, HasBit, SameRows, room, Gains, IsWideFor, Absorbs, Keeps, Joins, IsTransitive, IsEdge, IsWithin, AreWide, Follows, IsSound};
-ghost use Rattle.bundle_order_graph.specs.Walks.{Path};
+ghost use Rattle.std.specs.Prelude.{◌≡◌, ◌≢◌, ℕ, ◌+◌, ◌/◌, ◌<◌, ◌≤◌, ◌⊎◌, ◌↔◌, max, [], ◌∷◌, ◌++◌, length, IsTrue, MatchBool, OnOk, OnErr};
+ghost use Rattle.bundle_order_graph.specs.Bits.{Has, SameRow, row_room, row_at, HasBit, SameRows, room, Gains, IsWideFor, Absorbs, Joins, IsTransitive};
 
 use std::alloc::{AllocError, Global};
 use std::marker::Model;
@@ -222,66 +221,5 @@ impl Rows {
             }
         }
         Ok(())
-    }
-
-    /// The rows of a graph of so many positions with these edges.
-    pub(crate) fn reached_by(
-        alloc: Global,
-        count: usize,
-        edges: &[(usize, usize)],
-    ) -> Result<Rows, AllocError>
-        requires { All (IsWithin count) edges.now }
-        ensures len { IfOk result (λ rows. length rows ≡ count) }
-        ensures exact { IfOk result (λ rows.
-            (i j : ℕ) → HasBit rows i j ↔ Path (IsEdge edges.now) i j) }
-    {
-        let mut rows = Rows::empty(alloc, count)?;
-        while rows.sweep(edges) {
-            rows.sweep_back(edges);
-        }
-        Ok(rows)
-    }
-
-    /// Empty rows, wide enough for each position.
-    fn empty(alloc: Global, count: usize) -> Result<Rows, AllocError>
-        ensures len { IfOk result (λ rows. length rows ≡ count) }
-        ensures wide { IfOk result AreWide }
-        ensures empty { IfOk result (λ rows. (i j : ℕ) → HasBit rows i j → ⊥) }
-    {
-        let mut rows = Rows::new(alloc);
-        for at in 0..count {
-            let mut row = Row::new(alloc);
-            row.widen(count / 64 + 1)?;
-            rows.rows.push(row)?;
-        }
-        Ok(rows)
-    }
-
-    /// Follows each edge once, in their order. Tells whether a row grew.
-    fn sweep(&mut self, edges: &[(usize, usize)]) -> bool
-        requires within { All (IsWithin (length self.old)) edges.now }
-        requires wide { AreWide self.old }
-        ensures kept { Keeps edges.now self.old self.new }
-        ensures grown { MatchBool result (room self.new < room self.old)
-            (All (Follows self.new) edges.now) }
-    {
-        let mut grown = false;
-        for edge in edges {
-            if self.absorb(edge.0, edge.1) {
-                grown = true;
-            }
-        }
-        grown
-    }
-
-    /// Follows each edge once, from the last to the first.
-    fn sweep_back(&mut self, edges: &[(usize, usize)])
-        requires within { All (IsWithin (length self.old)) edges.now }
-        requires wide { AreWide self.old }
-        ensures kept { Keeps edges.now self.old self.new }
-    {
-        for edge in edges.iter().rev() {
-            self.absorb(edge.0, edge.1);
-        }
     }
 }

@@ -6,7 +6,7 @@ use Rattle.std.proofs.lemmas.List.{append-nil, append_assoc, length_push, get_or
 use Rattle.bundle_order_graph.specs.Walks.{Reaches, itself, along}
 use Rattle.bundle_order_graph.proofs.WalkLemmas.{Path-trans}
 use Rattle.bundle_order_sort.specs.declared.stack.Progress.{Progress}
-use Rattle.bundle_order_sort.specs.Numbers.{Needs, progress_of, IsOut, is_awaited}
+use Rattle.bundle_order_sort.specs.Numbers.{NeedsNumber, progress_of, IsOut, is_awaited}
 use Rattle.bundle_order_sort.specs.Chains.{Falls, WaitsForNone, AddsChain, AreChains}
 use Rattle.bundle_order_sort.proofs.StackLemmas.{before_or_at}
 
@@ -32,14 +32,14 @@ weaker false false false true true f g e = refl
 weaker false false false true false f g e = absurd (false≢true (g refl))
 
 module _ (needs : List (List ℕ)) (ranks : List ℕ) where
-  pub Falls-one : (s t : ℕ) → Needs needs s t → get_or ranks t 0 < get_or ranks s 0 → Falls needs ranks s t
+  pub Falls-one : (s t : ℕ) → NeedsNumber needs s t → get_or ranks t 0 < get_or ranks s 0 → Falls needs ranks s t
   Falls-one s t n l = record { path = (t, n, itself); lower = l }
 
   pub Falls-trans : (s t u : ℕ) → Falls needs ranks s t → Falls needs ranks t u → Falls needs ranks s u
   Falls-trans s t u f g = record { path = Path-trans f.path g.path; lower = omega (arith, f.lower, g.lower) }
 
-  module _ (inside : (s t : ℕ) → Needs needs s t → t < length needs) where
-    Reaches-within : {a b : ℕ} → Reaches (Needs needs) a b → a < length needs → b < length needs
+  module _ (inside : (s t : ℕ) → NeedsNumber needs s t → t < length needs) where
+    Reaches-within : {a b : ℕ} → Reaches (NeedsNumber needs) a b → a < length needs → b < length needs
     Reaches-within itself h = h
     Reaches-within (along {a} {b} e p) h = Reaches-within p (inside a b e)
 
@@ -91,7 +91,7 @@ module _ (needs : List (List ℕ)) (ranks : List ℕ) where
           each P old new k (inl l) = subst P (sym (get_or_append_left r.chain (next ∷ []) 0 k l)) (old k l)
           each P old new k (inr e) = subst P (sym (get_or_push r.chain next 0 k (sym e))) new
 
-      pub Running-within : ((s t : ℕ) → Needs needs s t → t < length needs) → item < length needs → at < length needs
+      pub Running-within : ((s t : ℕ) → NeedsNumber needs s t → t < length needs) → item < length needs → at < length needs
       Running-within inside h = elim r.here [ inl e ↦ subst (λ x. x < length needs) e h | inr f ↦ Falls-within inside item at f ]
 
       pub Running-adds : AddsChain needs ranks ps item base stack
@@ -168,7 +168,7 @@ module _ (needs : List (List ℕ)) (ranks : List ℕ) where
     }
 
   -- nothing is noted yet
-  pub AreChains-starts : (ps : List Progress) (ends cursors : List ℕ) → length ranks ≡ length needs → length ps ≡ length needs → length ends ≡ length needs → length cursors ≡ length needs → ((s t : ℕ) → Needs needs s t → t < length needs) → ((t : ℕ) → t < length needs → get_or ends t 0 ≡ t) → ((t : ℕ) → get_or cursors t 0 ≡ 0) → AreChains needs ranks ps ends cursors
+  pub AreChains-starts : (ps : List Progress) (ends cursors : List ℕ) → length ranks ≡ length needs → length ps ≡ length needs → length ends ≡ length needs → length cursors ≡ length needs → ((s t : ℕ) → NeedsNumber needs s t → t < length needs) → ((t : ℕ) → t < length needs → get_or ends t 0 ≡ t) → ((t : ℕ) → get_or cursors t 0 ≡ 0) → AreChains needs ranks ps ends cursors
   AreChains-starts ps ends cursors ranks_len progress_len ends_len cursors_len within same zero = record {
     ranks_len = ranks_len;
     progress_len = progress_len;

@@ -6,7 +6,7 @@ use Rattle.std.proofs.lemmas.Option.{slice_get_within, get_or_from_slice_get}
 use Rattle.std.proofs.lemmas.List.{get_or_past, length-map, get_or-map}
 use Rattle.std.proofs.lemmas.Map.Keys.{apart_from_distinct, IsDistinct-from_apart}
 use Rattle.bundle_order_sort.specs.declared.stack.Progress.{Progress}
-use Rattle.bundle_order_sort.specs.Numbers.{StandsBefore, IsInOrder, unknown, fresh, progress_of, IsOut}
+use Rattle.bundle_order_sort.specs.Numbers.{IsListedBefore, IsInOrder, unknown, fresh, progress_of, IsOut}
 use Rattle.bundle_order_sort.proofs.SortLemmas.{Promise, Sorting}
 
 nothing_in : (y : ℕ) → Contains [] y → ⊥
@@ -56,7 +56,7 @@ module _ (N : ℕ → ℕ → Type 0) (count : ℕ) (ranks firsts : List ℕ) wh
     out_in : (t : ℕ) → IsOut ps t → t < count
     out_in t o = elim (cases_lt t (length ps)) [ inl l ↦ omega (arith, l, w.len) | inr g ↦ absurd (false≢true (sym (ap (λ q. q.out) (get_or_past ps t unknown g)) ∙ o)) ]
 
-    promised : (s t : ℕ) → StandsBefore order s t → Promise N count ranks firsts s t
+    promised : (s t : ℕ) → IsListedBefore order s t → Promise N count ranks firsts s t
     promised s t b =
         let first = stands_at order b.i s b.first in
         let second = stands_at order b.j t b.second in

@@ -8,7 +8,7 @@ use Rattle.bundle_order_sort.specs.declared.stack.Progress.{Progress}
 use Rattle.bundle_order_sort.specs.Chains.{WaitsForNone, AreChains}
 use Rattle.bundle_order_sort.specs.Items.{NeedsByRank}
 use Rattle.bundle_order_sort.specs.Left.{KeepsLeft}
-use Rattle.bundle_order_sort.specs.Numbers.{Needs, IsOut, is_awaited, progress_of}
+use Rattle.bundle_order_sort.specs.Numbers.{NeedsNumber, IsOut, is_awaited, progress_of}
 
 -- what an item needs by what is left of lists, and is not out, it needs by the whole lists
 pub needed-left : (items : List SharedItem) (lists lists' : List (List ℕ)) (ranks : List ℕ) (ps : List Progress) → KeepsLeft ps lists lists' → (s : ℕ) (needed : List ℕ) → ((t : ℕ) → Contains needed t ↔ ((IsOut ps t → ⊥) × NeedsByRank items lists' ranks s t)) → (t : ℕ) → Contains needed t ↔ ((IsOut ps t → ⊥) × NeedsByRank items lists ranks s t)
@@ -27,11 +27,11 @@ KeepsLeft-progress ps ps' outs lists lists' keeps = record {
 module _ (N : ℕ → ℕ → Type 0) where
   -- what is listed for an item is a need of it, what a begun item needs is out or listed, and nothing is listed for the others
   pub record IsKnown (ps : List Progress) (needs : List (List ℕ)) : Type 0 where
-    pub sound : (s t : ℕ) → Needs needs s t → N s t
-    pub begun : (s t : ℕ) → (progress_of ps s).begun ≡ true → N s t → (IsOut ps t → ⊥) → Needs needs s t
-    pub waiting : (s t : ℕ) → (progress_of ps s).begun ≡ false → Needs needs s t → ⊥
+    pub sound : (s t : ℕ) → NeedsNumber needs s t → N s t
+    pub begun : (s t : ℕ) → (progress_of ps s).begun ≡ true → N s t → (IsOut ps t → ⊥) → NeedsNumber needs s t
+    pub waiting : (s t : ℕ) → (progress_of ps s).begun ≡ false → NeedsNumber needs s t → ⊥
 
-  pub IsKnown-starts : (ps : List Progress) (needs : List (List ℕ)) → ((s t : ℕ) → Needs needs s t → ⊥) → ((s : ℕ) → (progress_of ps s).begun ≡ false) → IsKnown ps needs
+  pub IsKnown-starts : (ps : List Progress) (needs : List (List ℕ)) → ((s t : ℕ) → NeedsNumber needs s t → ⊥) → ((s : ℕ) → (progress_of ps s).begun ≡ false) → IsKnown ps needs
   IsKnown-starts ps needs none new = record {
     sound = λ s t n. absurd (none s t n);
     begun = λ s t b n void. absurd (false≢true (sym (new s) ∙ b));
@@ -84,7 +84,7 @@ module _ (N : ℕ → ℕ → Type 0) where
       passed = λ u k l m. passed u k l m (cases_eq u s);
     }
       where
-        stays : (x y : ℕ) → Needs needs x y → Needs (set needs s needed) x y
+        stays : (x y : ℕ) → NeedsNumber needs x y → NeedsNumber (set needs s needed) x y
         stays x y n = elim (cases_eq x s) [
           | inl e ↦ absurd (w.waiting x y (ap (λ i. (progress_of ps i).begun) e ∙ new) n)
           | inr ne ↦ subst (λ (l : List ℕ). Contains l y) (sym (get_or-set_other needs s x needed [] ne)) n

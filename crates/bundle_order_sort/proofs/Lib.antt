@@ -6,14 +6,11 @@ pub mod HubLemmas
 pub mod ItemLemmas
 pub mod KnownLemmas
 pub mod LeftLemmas
-pub mod RankingLemmas
-pub mod RowLemmas
 pub mod SiftLemmas
 pub mod SortLemmas
 pub mod StackLemmas
 pub mod StepLemmas
 pub mod TopmostLemmas
-pub mod WalkingLemmas
 pub mod WorkLemmas
 pub mod BlockLemmas
 pub mod MergeLemmas

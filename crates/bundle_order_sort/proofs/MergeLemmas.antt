@@ -11,8 +11,8 @@ use Rattle.bundle_order_graph.specs.Order.{IsOrder}
 use Rattle.bundle_order_graph.specs.Blocks.{Members as MembersOf, SharesBlock, AreBlocks, BlocksOf, over, ends, goes_on}
 use Rattle.bundle_order_graph.proofs.NodeLemmas.{place-in, Contains-place, found, place-contains}
 use Rattle.bundle_order_graph.proofs.OrderLemmas.{Contains-head, Contains-tail, Contains-cons_cases}
-use Rattle.bundle_order_sort.specs.Places.{ReachEachOther, is_end, is_in_some, is_it}
-use Rattle.bundle_order_sort.specs.Merged.{Members, merged}
+use Rattle.bundle_order_sort.specs.Places.{ReachEachOther, is_list_end, is_in_some, is_it}
+use Rattle.bundle_order_sort.specs.Merged.{MergedMembers, merged}
 use Rattle.bundle_order_sort.proofs.OnceLemmas.{IsOnce, IsOnce-from_distinct, InSome, nothing_in, once-behind}
 use Rattle.bundle_order_sort.proofs.BlockLemmas.{Members-has, Members-last, Members-one, Members-same, blocks-has, blocks-in, path-join, path-reaches, reaches-join, same-or-path}
 
@@ -20,23 +20,23 @@ use Rattle.bundle_order_sort.proofs.BlockLemmas.{Members-has, Members-last, Memb
 module _ (is_on : ℕ → Bool) (m : ℕ) (list : List ℕ) where
   pub merged-alone : (cycles : List (List ℕ)) → is_on m ≡ false → merged is_on (m ∷ list) cycles ≡ (m ∷ [], false) ∷ merged is_on list cycles
   merged-alone [] e = ap (λ b. cond b (merged is_on list []) ((m ∷ [], false) ∷ merged is_on list [])) e
-  merged-alone (cycle ∷ cycles) e = ap (λ b. cond b (cond (is_end m cycle) ((cycle, true) ∷ merged is_on list cycles) (merged is_on list (cycle ∷ cycles))) ((m ∷ [], false) ∷ merged is_on list (cycle ∷ cycles))) e
+  merged-alone (cycle ∷ cycles) e = ap (λ b. cond b (cond (is_list_end m cycle) ((cycle, true) ∷ merged is_on list cycles) (merged is_on list (cycle ∷ cycles))) ((m ∷ [], false) ∷ merged is_on list (cycle ∷ cycles))) e
 
-  pub merged-ends : (cycle : List ℕ) (cycles : List (List ℕ)) → is_on m ≡ true → is_end m cycle ≡ true → merged is_on (m ∷ list) (cycle ∷ cycles) ≡ (cycle, true) ∷ merged is_on list cycles
+  pub merged-ends : (cycle : List ℕ) (cycles : List (List ℕ)) → is_on m ≡ true → is_list_end m cycle ≡ true → merged is_on (m ∷ list) (cycle ∷ cycles) ≡ (cycle, true) ∷ merged is_on list cycles
   merged-ends cycle cycles e f =
-      ap (λ b. cond b (cond (is_end m cycle) ((cycle, true) ∷ merged is_on list cycles) (merged is_on list (cycle ∷ cycles))) ((m ∷ [], false) ∷ merged is_on list (cycle ∷ cycles))) e
+      ap (λ b. cond b (cond (is_list_end m cycle) ((cycle, true) ∷ merged is_on list cycles) (merged is_on list (cycle ∷ cycles))) ((m ∷ [], false) ∷ merged is_on list (cycle ∷ cycles))) e
       ∙ ap (λ b. cond b ((cycle, true) ∷ merged is_on list cycles) (merged is_on list (cycle ∷ cycles))) f
 
   pub merged-past : is_on m ≡ true → merged is_on (m ∷ list) [] ≡ merged is_on list []
   merged-past e = ap (λ b. cond b (merged is_on list []) ((m ∷ [], false) ∷ merged is_on list [])) e
 
-  pub merged-goes : (cycle : List ℕ) (cycles : List (List ℕ)) → is_on m ≡ true → is_end m cycle ≡ false → merged is_on (m ∷ list) (cycle ∷ cycles) ≡ merged is_on list (cycle ∷ cycles)
+  pub merged-goes : (cycle : List ℕ) (cycles : List (List ℕ)) → is_on m ≡ true → is_list_end m cycle ≡ false → merged is_on (m ∷ list) (cycle ∷ cycles) ≡ merged is_on list (cycle ∷ cycles)
   merged-goes cycle cycles e f =
-      ap (λ b. cond b (cond (is_end m cycle) ((cycle, true) ∷ merged is_on list cycles) (merged is_on list (cycle ∷ cycles))) ((m ∷ [], false) ∷ merged is_on list (cycle ∷ cycles))) e
+      ap (λ b. cond b (cond (is_list_end m cycle) ((cycle, true) ∷ merged is_on list cycles) (merged is_on list (cycle ∷ cycles))) ((m ∷ [], false) ∷ merged is_on list (cycle ∷ cycles))) e
       ∙ ap (λ b. cond b ((cycle, true) ∷ merged is_on list cycles) (merged is_on list (cycle ∷ cycles))) f
 
 -- the last of a list
-pub is_end-push : (m : ℕ) (zs : List ℕ) (y : ℕ) → is_end m (zs ++ y ∷ []) ≡ nat_eq y m
+pub is_end-push : (m : ℕ) (zs : List ℕ) (y : ℕ) → is_list_end m (zs ++ y ∷ []) ≡ nat_eq y m
 is_end-push m zs y =
     let l = length_push zs y in
     let within : length (zs ++ y ∷ []) - 1 < length (zs ++ y ∷ []) = omega (arith, l) in
@@ -80,25 +80,25 @@ module _ (g : Modules) where
   ]
 
 -- ---- what the modules are
-abbrev pub first : Members → List ℕ
+abbrev pub first : MergedMembers → List ℕ
 first members = members.0
 
 -- a module alone that does not request itself, or else a cycle
-abbrev pub IsKind : Modules → Members → Type 0
+abbrev pub IsKind : Modules → MergedMembers → Type 0
 IsKind g (members, true) = (m : ℕ) → members ≡ m ∷ [] → Requests g m m
 IsKind g (members, false) = (m : ℕ) × (members ≡ m ∷ []) × (Requests g m m → ⊥)
 
-abbrev pub AreKinds : Modules → List Members → Type 0
+abbrev pub AreKinds : Modules → List MergedMembers → Type 0
 AreKinds g [] = Unit {0}
 AreKinds g (one ∷ rest) = IsKind g one × AreKinds g rest
 
 module _ (g : Modules) (list : List ℕ) (once : IsOnce list) (closed : (a b : ℕ) → Contains list a → Requests g a b → Contains list b) (is_on : ℕ → Bool) (on_true : (x : ℕ) → Contains list x → is_on x ≡ true → SharesBlock g x x) (on_false : (x : ℕ) → Contains list x → is_on x ≡ false → SharesBlock g x x → ⊥) where
   -- the next cycle ends with a module of the rest
-  next-last : (before rest : List ℕ) (cycle : List ℕ) (cycles : List (List ℕ)) → list ≡ before ++ rest → BlocksOf (SharesBlock g) list rest (cycle ∷ cycles) → (y : ℕ) × Contains rest y × ((m : ℕ) → is_end m cycle ≡ nat_eq y m)
+  next-last : (before rest : List ℕ) (cycle : List ℕ) (cycles : List (List ℕ)) → list ≡ before ++ rest → BlocksOf (SharesBlock g) list rest (cycle ∷ cycles) → (y : ℕ) × Contains rest y × ((m : ℕ) → is_list_end m cycle ≡ nat_eq y m)
   next-last before [] cycle cycles e b = elim b [ ]
   next-last before (x ∷ rest) cycle cycles e (ends own none m b) =
       let r = Members-last before x rest cycle (subst (λ (l : List ℕ). MembersOf (SharesBlock g x) l cycle) e m) own none in
-      (x, Contains-head rest x, λ n. ap (is_end n) r.1 ∙ is_end-push n r.0 x)
+      (x, Contains-head rest x, λ n. ap (is_list_end n) r.1 ∙ is_end-push n r.0 x)
   next-last before (x ∷ rest) cycle cycles e (goes_on why b) =
       let r = next-last (before ++ x ∷ []) rest cycle cycles (e ∙ sym (append_assoc before (x ∷ []) rest)) b in
       (r.0, Contains-tail rest x r.0 r.1, r.2)
@@ -160,20 +160,20 @@ module _ (g : Modules) (list : List ℕ) (once : IsOnce list) (closed : (a b : �
     kind-alone lone = (x, refl, λ e. lone ((x, e, itself), (x, e, itself)))
 
     -- a module on a cycle of which a later one stands behind ends none
-    not-end : (cycle : List ℕ) (cycles : List (List ℕ)) → BlocksOf (SharesBlock g) list rest (cycle ∷ cycles) → is_end x cycle ≡ false
+    not-end : (cycle : List ℕ) (cycles : List (List ℕ)) → BlocksOf (SharesBlock g) list rest (cycle ∷ cycles) → is_list_end x cycle ≡ false
     not-end cycle cycles b =
         let r = next-last (before ++ x ∷ []) rest cycle cycles behind b in
         by (nat_eq r.0 x) refl r
       where
-        by : (t : Bool) → nat_eq (next-last (before ++ x ∷ []) rest cycle cycles behind b).0 x ≡ t → ((y : ℕ) × Contains rest y × ((m : ℕ) → is_end m cycle ≡ nat_eq y m)) → is_end x cycle ≡ false
+        by : (t : Bool) → nat_eq (next-last (before ++ x ∷ []) rest cycle cycles behind b).0 x ≡ t → ((y : ℕ) × Contains rest y × ((m : ℕ) → is_list_end m cycle ≡ nat_eq y m)) → is_list_end x cycle ≡ false
         by t f r = step r.0 r.1 (r.2 x) (nat_eq r.0 x) refl
           where
-            step : (y : ℕ) → Contains rest y → is_end x cycle ≡ nat_eq y x → (t : Bool) → nat_eq y x ≡ t → is_end x cycle ≡ false
+            step : (y : ℕ) → Contains rest y → is_list_end x cycle ≡ nat_eq y x → (t : Bool) → nat_eq y x ≡ t → is_list_end x cycle ≡ false
             step y c is true f = absurd (new (subst (λ w. Contains rest w) (eqb-true y x f) c))
             step y c is false f = is ∙ f
 
   -- ---- all together
-  pub AreMerged : List ℕ → List Members → Type 0
+  pub AreMerged : List ℕ → List MergedMembers → Type 0
   AreMerged rest all = BlocksOf (ReachEachOther g) list rest (map first all) × AreKinds g all
 
   pub merged-blocks : (before rest : List ℕ) (cycles : List (List ℕ)) → list ≡ before ++ rest → BlocksOf (SharesBlock g) list rest cycles → AreMerged rest (merged is_on rest cycles)
@@ -183,15 +183,15 @@ module _ (g : Modules) (list : List ℕ) (once : IsOnce list) (closed : (a b : �
   merged-blocks before (x ∷ rest) (cycle ∷ cycles) split (ends own none m b) =
       step (is_on x) refl (merged-blocks (before ++ x ∷ []) rest cycles (behind before x rest split) b)
     where
-      is_last : is_end x cycle ≡ true
+      is_last : is_list_end x cycle ≡ true
       is_last =
           let r = Members-last before x rest cycle (subst (λ (l : List ℕ). MembersOf (SharesBlock g x) l cycle) split m) own none in
-          ap (is_end x) r.1 ∙ (is_end-push x r.0 x ∙ eq-eqb x x refl)
+          ap (is_list_end x) r.1 ∙ (is_end-push x r.0 x ∙ eq-eqb x x refl)
 
       step : (t : Bool) → is_on x ≡ t → AreMerged rest (merged is_on rest cycles) → AreMerged (x ∷ rest) (merged is_on (x ∷ rest) (cycle ∷ cycles))
       step false e more = absurd (on_false x (there before x rest split) e own)
       step true e more =
-          subst (λ (l : List Members). AreMerged (x ∷ rest) l) (sym (merged-ends is_on x rest cycle cycles e is_last))
+          subst (λ (l : List MergedMembers). AreMerged (x ∷ rest) l) (sym (merged-ends is_on x rest cycle cycles e is_last))
           (block-ends before x rest split cycle own none m (map first (merged is_on rest cycles)) more.0, (kind-cycle before x rest split cycle own none m, more.1))
   merged-blocks before (x ∷ rest) cycles split (goes_on why b) =
       step (is_on x) refl why (merged-blocks (before ++ x ∷ []) rest cycles (behind before x rest split) b)
@@ -209,11 +209,11 @@ module _ (g : Modules) (list : List ℕ) (once : IsOnce list) (closed : (a b : �
       step : (t : Bool) → is_on x ≡ t → (SharesBlock g x x → ⊥) ⊎ ((y : ℕ) × Contains rest y × SharesBlock g x y) → AreMerged rest (merged is_on rest cycles) → AreMerged (x ∷ rest) (merged is_on (x ∷ rest) cycles)
       step false e reason more =
           let lone = on_false x (there before x rest split) e in
-          subst (λ (l : List Members). AreMerged (x ∷ rest) l) (sym (merged-alone is_on x rest cycles e))
+          subst (λ (l : List MergedMembers). AreMerged (x ∷ rest) l) (sym (merged-alone is_on x rest cycles e))
           (block-alone before x rest split lone (map first (merged is_on rest cycles)) more.0, (kind-alone before x rest split lone, more.1))
       step true e (inl lone) more = absurd (lone (on_true x (there before x rest split) e))
       step true e (inr w) more =
-          subst (λ (l : List Members). AreMerged (x ∷ rest) l) (sym (past e))
+          subst (λ (l : List MergedMembers). AreMerged (x ∷ rest) l) (sym (past e))
           (goes_on (inr (w.0, w.1, each-shares g x w.0 w.2)) more.0, more.1)
 
 -- ---- which modules are on a cycle

@@ -9,8 +9,8 @@ use Rattle.bundle_order_graph.specs.Order.{IsOrder}
 use Rattle.bundle_order_graph.specs.Blocks.{AreBlocks}
 use Rattle.bundle_order_sort.specs.declared.plan.Block.{Block}
 use Rattle.bundle_order_sort.specs.declared.plan.Plan.{Plan}
-use Rattle.bundle_order_sort.specs.Places.{is_end, is_in_some, left_of, numbers_from}
-use Rattle.bundle_order_sort.specs.Merged.{Members, ends_at, ends_some, merged}
+use Rattle.bundle_order_sort.specs.Places.{is_list_end, is_in_some, left_of, module_numbers_from}
+use Rattle.bundle_order_sort.specs.Merged.{MergedMembers, ends_list_at, ends_some, merged}
 use Rattle.bundle_order_sort.specs.Plan.{IsBlock, IsPlanned, IsPlanOf}
 use Rattle.bundle_order_sort.proofs.PlaceLemmas.{places-push}
 use Rattle.bundle_order_sort.proofs.MergeLemmas.{AreKinds, IsKind, first, merged-alone, merged-ends, merged-goes, merged-past, merged-order}
@@ -34,23 +34,23 @@ module _ (is_on : ℕ → Bool) (list : List ℕ) (cycles : List (List ℕ)) (at
   pub at-alone : is_on here ≡ false → merged is_on (drop at list) (drop next cycles) ≡ (here ∷ [], false) ∷ merged is_on (drop (at + 1) list) (drop next cycles)
   at-alone e = split (drop next cycles) ∙ merged-alone is_on here (drop (at + 1) list) (drop next cycles) e
 
-  pub ends-within : ends_at here cycles next ≡ true → next < length cycles
+  pub ends-within : ends_list_at here cycles next ≡ true → next < length cycles
   ends-within f = elim (cases_lt next (length cycles)) [
     | inl l ↦ l
     | inr g ↦ absurd (false≢true (sym (ap (ends_some here) (slice_get_past cycles next g)) ∙ f))
   ]
 
-  reads : next < length cycles → ends_at here cycles next ≡ is_end here (get_or cycles next [])
+  reads : next < length cycles → ends_list_at here cycles next ≡ is_list_end here (get_or cycles next [])
   reads l = ap (ends_some here) (slice_get-get_or cycles next [] l)
 
-  pub at-ends : is_on here ≡ true → ends_at here cycles next ≡ true → merged is_on (drop at list) (drop next cycles) ≡ (get_or cycles next [], true) ∷ merged is_on (drop (at + 1) list) (drop (next + 1) cycles)
+  pub at-ends : is_on here ≡ true → ends_list_at here cycles next ≡ true → merged is_on (drop at list) (drop next cycles) ≡ (get_or cycles next [], true) ∷ merged is_on (drop (at + 1) list) (drop (next + 1) cycles)
   at-ends e f =
       let l = ends-within f in
       split (drop next cycles)
       ∙ (ap (λ (cs : List (List ℕ)). merged is_on (here ∷ drop (at + 1) list) cs) (drop_more cycles next [] l)
       ∙ merged-ends is_on here (drop (at + 1) list) (get_or cycles next []) (drop (next + 1) cycles) e (sym (reads l) ∙ f))
 
-  pub at-goes : is_on here ≡ true → ends_at here cycles next ≡ false → merged is_on (drop at list) (drop next cycles) ≡ merged is_on (drop (at + 1) list) (drop next cycles)
+  pub at-goes : is_on here ≡ true → ends_list_at here cycles next ≡ false → merged is_on (drop at list) (drop next cycles) ≡ merged is_on (drop (at + 1) list) (drop next cycles)
   at-goes e f = split (drop next cycles) ∙ elim (cases_lt next (length cycles)) [
     | inl l ↦
         ap (λ (cs : List (List ℕ)). merged is_on (here ∷ drop (at + 1) list) cs) (drop_more cycles next [] l)
@@ -63,17 +63,17 @@ module _ (is_on : ℕ → Bool) (list : List ℕ) (cycles : List (List ℕ)) (at
   ]
 
 -- nothing of the list is left
-pub merged-over : {B : Type 0} (Fits : Members → B → Type 0) (is_on : ℕ → Bool) (list : List ℕ) (cycles : List (List ℕ)) (at : ℕ) (all : List Members) (done : List B) → length list ≤ at → ((rest : List B) → AllZip Fits (merged is_on (drop at list) cycles) rest → AllZip Fits all (done ++ rest)) → AllZip Fits all done
+pub merged-over : {B : Type 0} (Fits : MergedMembers → B → Type 0) (is_on : ℕ → Bool) (list : List ℕ) (cycles : List (List ℕ)) (at : ℕ) (all : List MergedMembers) (done : List B) → length list ≤ at → ((rest : List B) → AllZip Fits (merged is_on (drop at list) cycles) rest → AllZip Fits all (done ++ rest)) → AllZip Fits all done
 merged-over {B} Fits is_on list cycles at all done past so_far =
     subst (λ (l : List B). AllZip Fits all l) (append-nil done)
     (so_far [] (subst (λ (l : List ℕ). AllZip Fits (merged is_on l cycles) []) (sym (drop_all at list past)) tt))
 
 -- ---- the numbers of one module more
-pub numbers-push : {X : Type 0} (k : ℕ) (modules : List (List X)) (items : List X) → numbers_from k (modules ++ items ∷ []) ≡ numbers_from k modules ++ map (λ item. k + length modules) items
+pub numbers-push : {X : Type 0} (k : ℕ) (modules : List (List X)) (items : List X) → module_numbers_from k (modules ++ items ∷ []) ≡ module_numbers_from k modules ++ map (λ item. k + length modules) items
 numbers-push {X} k [] items = append-nil (map (λ (item : X). k) items) ∙ ap (λ j. map (λ (item : X). j) items) (let same : k ≡ k + 0 = omega arith in same)
 numbers-push {X} k (first ∷ modules) items =
-    ap (λ (l : List ℕ). map (λ (item : X). k) first ++ l) (numbers-push (k + 1) modules items ∙ ap (λ j. numbers_from (k + 1) modules ++ map (λ (item : X). j) items) (let same : k + 1 + length modules ≡ k + suc (length modules) = omega arith in same))
-    ∙ sym (append_assoc (map (λ (item : X). k) first) (numbers_from (k + 1) modules) (map (λ (item : X). k + suc (length modules)) items))
+    ap (λ (l : List ℕ). map (λ (item : X). k) first ++ l) (numbers-push (k + 1) modules items ∙ ap (λ j. module_numbers_from (k + 1) modules ++ map (λ (item : X). j) items) (let same : k + 1 + length modules ≡ k + suc (length modules) = omega arith in same))
+    ∙ sym (append_assoc (map (λ (item : X). k) first) (module_numbers_from (k + 1) modules) (map (λ (item : X). k + suc (length modules)) items))
 
 pub flat-push : {X A : Type 0} (f : X → List A) (xs : List X) (x : X) → flat_map f (xs ++ x ∷ []) ≡ flat_map f xs ++ f x
 flat-push f [] x = append-nil (f x)
@@ -100,7 +100,7 @@ module _ (owners list : List ℕ) (i x : ℕ) (within : i < length owners) (read
   left-passed e = left-more ∙ (ap (λ b. left_of (take i owners) list ++ cond (not b) (i ∷ []) []) e ∙ append-nil (left_of (take i owners) list))
 
 -- ---- in the end
-planned-of : (g : Modules) (owners : List ℕ) (one : Members) (block : Block) → IsKind g one → IsBlock owners one block → IsPlanned g owners one.0 block
+planned-of : (g : Modules) (owners : List ℕ) (one : MergedMembers) (block : Block) → IsKind g one → IsBlock owners one block → IsPlanned g owners one.0 block
 planned-of g owners (members, true) block kind b = record {
   places = b.places;
   numbers = b.numbers;
@@ -114,7 +114,7 @@ planned-of g owners (members, false) block kind b = record {
   cycle = λ e. absurd (false≢true (sym b.cycle ∙ e));
 }
 
-all-planned : (g : Modules) (owners : List ℕ) (all : List Members) (blocks : List Block) → AreKinds g all → AllZip (IsBlock owners) all blocks → AllZip (IsPlanned g owners) (map first all) blocks
+all-planned : (g : Modules) (owners : List ℕ) (all : List MergedMembers) (blocks : List Block) → AreKinds g all → AllZip (IsBlock owners) all blocks → AllZip (IsPlanned g owners) (map first all) blocks
 all-planned g owners [] [] kinds z = tt
 all-planned g owners [] (block ∷ blocks) kinds z = absurd z
 all-planned g owners (one ∷ all) [] kinds z = absurd z

@@ -10,7 +10,7 @@ use Rattle.bundle_order_graph.specs.Walks.{Path}
 use Rattle.bundle_order_sort.specs.Topmost.{IsTopmost}
 use Rattle.bundle_order_sort.proofs.TopmostLemmas.{Under-topmost, Hangs-topmost}
 use Rattle.bundle_order_sort.specs.declared.stack.Progress.{Progress}
-use Rattle.bundle_order_sort.specs.Numbers.{IsEarlier, Step, by_need, by_own_order, unknown, progress_of, IsOut, is_awaited}
+use Rattle.bundle_order_sort.specs.Numbers.{IsEarlierNumber, NumberStep, by_need, by_own_order, unknown, progress_of, IsOut, is_awaited}
 use Rattle.bundle_order_sort.proofs.StackLemmas.{Path-one, before_or_at, Under, Hangs, Under-pop, Hangs-pop, Under-top, Hangs-top, Under-push, Hangs-push, Hangs-begun, Under-new}
 
 abbrev pub IsBegun : List Progress → ℕ → Type 0
@@ -62,11 +62,11 @@ absent xs y void = elim (cases_Bool (list_any (nat_eq y) xs)) [ inl e ↦ absurd
 
 module _ (N : ℕ → ℕ → Type 0) (count : ℕ) (ranks firsts : List ℕ) where
   abbrev pub Along : ℕ → ℕ → Type 0
-  Along = Step N firsts
+  Along = NumberStep N firsts
 
   -- what holds where item s stands before t
   pub record Promise (s t : ℕ) : Type 0 where
-    pub own : IsEarlier firsts s t → Path Along t s
+    pub own : IsEarlierNumber firsts s t → Path Along t s
     pub needed : N s t → (get_or ranks s 0 ≤ get_or ranks t 0) × Path Along s s
 
   or_itself : {A B C : Type 0} → (A → B) → A ⊎ C → B ⊎ C
@@ -184,7 +184,7 @@ module _ (N : ℕ → ℕ → Type 0) (count : ℕ) (ranks firsts : List ℕ) wh
       one : List ℕ
       one = e ∷ []
 
-      earlier : IsEarlier firsts s e
+      earlier : IsEarlierNumber firsts s e
       earlier = (omega (arith, w.from s top_in, high), low)
 
       only : (k : ℕ) → k < length (e ∷ []) → get_or (e ∷ []) k 0 ≡ e

@@ -10,7 +10,7 @@ use Rattle.std.proofs.lemmas.Map.Views.{length-le_from_below}
 use Rattle.bundle_order_graph.specs.Walks.{Path}
 use Rattle.bundle_order_graph.proofs.WalkLemmas.{Path-mono}
 use Rattle.bundle_order_sort.specs.declared.stack.Progress.{Progress}
-use Rattle.bundle_order_sort.specs.Numbers.{Needs, Step, by_need, unknown, progress_of, IsOut, is_awaited, AreSkips}
+use Rattle.bundle_order_sort.specs.Numbers.{NeedsNumber, NumberStep, by_need, unknown, progress_of, IsOut, is_awaited, AreSkips}
 use Rattle.bundle_order_sort.specs.Chains.{AddsChain, AreChains}
 use Rattle.bundle_order_sort.specs.Topmost.{IsTopmost}
 use Rattle.bundle_order_sort.proofs.SortLemmas.{Sorting, Sorting-drops, Sorting-awaits, Sorting-chains, Sorting-pulls, Sorting-outs, Sorting-topmost, written, kept, field}
@@ -131,8 +131,8 @@ module _ (N : ℕ → ℕ → Type 0) (count : ℕ) (ranks firsts : List ℕ) (i
             (work-begins count ranks (without_top stack) s ps stack-known p was_left (reverse needed) short (ap (λ q. q.begun) is ∙ new) (ap (λ q. q.out) e ∙ sym (ap (λ q. q.out) is)) (ap (λ q. q.begun) e) (ap (λ q. q.next) e ∙ sym (ap (λ q. q.next) is))))
 
       -- a chain of the item is put above it
-      module _ (needs : List (List ℕ)) (len : length needs ≡ count) (known_needs : (x y : ℕ) → Needs needs x y → N x y) (stack' : List ℕ) (adds : AddsChain needs ranks ps s stack stack') where
-        steps : (k : ℕ) → k < length adds.chain → Path (Step N firsts) s (get_or adds.chain k 0)
+      module _ (needs : List (List ℕ)) (len : length needs ≡ count) (known_needs : (x y : ℕ) → NeedsNumber needs x y → N x y) (stack' : List ℕ) (adds : AddsChain needs ranks ps s stack stack') where
+        steps : (k : ℕ) → k < length adds.chain → Path (NumberStep N firsts) s (get_or adds.chain k 0)
         steps k h = Path-mono (λ x y n. by_need (known_needs x y n)) (adds.falls k h).path
 
         chain-in : (k : ℕ) → k < length adds.chain → get_or adds.chain k 0 < count

@@ -2,16 +2,16 @@
 use Rattle.std.specs.Prelude.{◌≡◌, ℕ, ◌<◌, ◌≤◌, ◌++◌, ◌⊎◌, false, List, [], length, slice_index, slice_index_or}
 use Rattle.bundle_order_graph.specs.Walks.{Path}
 use Rattle.bundle_order_sort.specs.declared.stack.Progress.{Progress}
-use Rattle.bundle_order_sort.specs.Numbers.{Needs, IsOut, is_awaited}
+use Rattle.bundle_order_sort.specs.Numbers.{NeedsNumber, IsOut, is_awaited}
 
 -- a path of needs leads from item s to t, which ranks lower
 pub record Falls (needs : List (List ℕ)) (ranks : List ℕ) (s t : ℕ) : Type 0 where
-  pub path : Path (Needs needs) s t
+  pub path : Path (NeedsNumber needs) s t
   pub lower : slice_index ranks t < slice_index ranks s
 
 -- item s waits for none of those that it needs
 abbrev pub WaitsForNone : List (List ℕ) → List ℕ → List Progress → ℕ → Type 0
-WaitsForNone needs ranks progress s = (t : ℕ) → Needs needs s t → is_awaited ranks progress s t ≡ false
+WaitsForNone needs ranks progress s = (t : ℕ) → NeedsNumber needs s t → is_awaited ranks progress s t ≡ false
 
 -- the stack grows by a chain of item s: its items are not out, paths of needs lead to them, and there are at most as many as s ranks
 pub record AddsChain (needs : List (List ℕ)) (ranks : List ℕ) (progress : List Progress) (s : ℕ) (old new : List ℕ) : Type 0 where
@@ -27,7 +27,7 @@ pub record AreChains (needs : List (List ℕ)) (ranks : List ℕ) (progress : Li
   pub progress_len : length progress ≡ length needs
   pub ends_len : length ends ≡ length needs
   pub cursors_len : length cursors ≡ length needs
-  pub within : (s t : ℕ) → Needs needs s t → t < length needs
+  pub within : (s t : ℕ) → NeedsNumber needs s t → t < length needs
   pub end : (s : ℕ) → s < length needs → (slice_index ends s ≡ s) ⊎ Falls needs ranks s (slice_index ends s)
   pub passed : (s k : ℕ) →
       k < slice_index cursors s →

@@ -4,71 +4,72 @@ use Rattle.std.specs.List.{IsDistinct}
 use Rattle.bundle_order_graph.specs.Walks.{Path}
 use Rattle.bundle_order_sort.specs.declared.Reference.{Reference}
 use Rattle.bundle_order_sort.specs.declared.SharedItem.{SharedItem}
-use Rattle.bundle_order_sort.specs.Classes.{Leads}
-use Rattle.bundle_order_sort.specs.Numbers.{StandsBefore}
+use Rattle.bundle_order_graph.specs.Classes.{Leads}
+use Rattle.bundle_order_sort.specs.Numbers.{IsListedBefore}
 
 -- item s is one of this module, and not free
-pub record IsOf (items : List SharedItem) (s module_number : ℕ) : Type 0 where
+pub record IsItemOf (items : List SharedItem) (s module_number : ℕ) : Type 0 where
   pub item : SharedItem
   pub at : slice_get items s ≡ Some item
   pub bound : item.is_free ≡ false
-  pub own : item.module ≡ module_number
+  pub own : item.which ≡ module_number
 
 -- both items are of one module, and neither is free
 pub record ShareModule (items : List SharedItem) (s t : ℕ) : Type 0 where
   pub module_number : ℕ
-  pub one : IsOf items s module_number
-  pub other : IsOf items t module_number
+  pub one : IsItemOf items s module_number
+  pub other : IsItemOf items t module_number
 
 -- item s depends on this list, weakly or not
-pub record Refers (items : List SharedItem) (s : ℕ) (reference : Reference) : Type 0 where
+pub record RefersToList (items : List SharedItem) (s : ℕ) (reference : Reference) : Type 0 where
   pub item : SharedItem
   pub at : slice_get items s ≡ Some item
   pub listed : Contains item.references.items reference
 
 -- item t is in a list on which item s depends, weakly or not; a number that is no item's, or its own, is no dependency
-pub record Names (items : List SharedItem) (lists : List (List ℕ)) (s t : ℕ) (is_weak : Bool) : Type 0 where
+pub record NamesShared (items : List SharedItem) (lists : List (List ℕ)) (s t : ℕ) (is_weak : Bool) : Type 0 where
   pub list : ℕ
-  pub refers : Refers items s (record { list = list; is_weak = is_weak })
+  pub refers : RefersToList items s (record { list = list; is_weak = is_weak })
   pub listed : Leads lists list t
   pub within : t < length items
   pub other : t ≢ s
 
 -- item s depends on item t, weakly or not
-abbrev pub Depends : List SharedItem → List (List ℕ) → ℕ → ℕ → Type 0
-Depends items lists s t = (is_weak : Bool) × Names items lists s t is_weak
+abbrev pub DependsShared : List SharedItem → List (List ℕ) → ℕ → ℕ → Type 0
+DependsShared items lists s t = (is_weak : Bool) × NamesShared items lists s t is_weak
 
 -- item s needs item t: it depends on it; they are not of one module, or one of them is free; and if the dependency is weak, no path of dependencies leads back
-pub record Needs (items : List SharedItem) (lists : List (List ℕ)) (s t : ℕ) : Type 0 where
+pub record NeedsShared (items : List SharedItem) (lists : List (List ℕ)) (s t : ℕ) : Type 0 where
   pub is_weak : Bool
-  pub named : Names items lists s t is_weak
+  pub named : NamesShared items lists s t is_weak
   pub apart : ShareModule items s t → ⊥
-  pub strong : is_weak ≡ true → Path (Depends items lists) t s → ⊥
+  pub strong : is_weak ≡ true → Path (DependsShared items lists) t s → ⊥
 
 -- t is an earlier item of the module of s: they and all between them are of one module, and not free
-pub record IsEarlier (items : List SharedItem) (s t : ℕ) : Type 0 where
+pub record IsEarlierItem (items : List SharedItem) (s t : ℕ) : Type 0 where
   pub before : t < s
   pub module_number : ℕ
-  pub together : (k : ℕ) → t ≤ k → k ≤ s → IsOf items k module_number
+  pub together : (k : ℕ) → t ≤ k → k ≤ s → IsItemOf items k module_number
 
 -- a step leads from an item to one that it needs, or from an item that is not free to an earlier one of its module
-pub data Step (items : List SharedItem) (lists : List (List ℕ)) (s t : ℕ) : Type 0 where
-  to_need : Needs items lists s t → Step items lists s t
-  to_earlier : IsEarlier items s t → Step items lists s t
+pub data SharedStep (items : List SharedItem) (lists : List (List ℕ)) (s t : ℕ) : Type 0 where
+  to_need : NeedsShared items lists s t → SharedStep items lists s t
+  to_earlier : IsEarlierItem items s t → SharedStep items lists s t
 
 -- the order that is promised: each item once. An item stands before an earlier one of its module only where a path of steps leads from that one back to it. It stands before one that it needs only where a path of dependencies leads from that one back to it, and a path of steps from it to itself
-pub record IsGoodOrder (items : List SharedItem) (lists : List (List ℕ)) (order : List ℕ) : Type 0 where
+pub record IsGoodItemOrder (items : List SharedItem) (lists : List (List ℕ)) (order : List ℕ) : Type 0 where
   pub all : (s : ℕ) → (s < length items) ↔ Contains order s
   pub once : IsDistinct nat_eq order
-  pub own : (s t : ℕ) → IsEarlier items s t → StandsBefore order s t → Path (Step items lists) t s
+  pub own : (s t : ℕ) → IsEarlierItem items s t → IsListedBefore order s t →
+      Path (SharedStep items lists) t s
   pub needed : (s t : ℕ) →
-      Needs items lists s t →
-      StandsBefore order s t →
-      Path (Depends items lists) t s × Path (Step items lists) s s
+      NeedsShared items lists s t →
+      IsListedBefore order s t →
+      Path (DependsShared items lists) t s × Path (SharedStep items lists) s s
 
 -- the items of each module stand together
 abbrev pub AreGrouped : List SharedItem → Type 0
-AreGrouped items = (s t m : ℕ) → IsOf items s m → IsOf items t m → (k : ℕ) → t ≤ k → k ≤ s → IsOf items k m
+AreGrouped items = (s t m : ℕ) → IsItemOf items s m → IsItemOf items t m → (k : ℕ) → t ≤ k → k ≤ s → IsItemOf items k m
 
 -- What is computed of items on the way.
 
@@ -85,12 +86,12 @@ abbrev pub number_behind : ℕ → Reference → ℕ
 number_behind before r = before + r.list
 
 -- an edge leads from an item to a list on which it depends, where lists are numbered on behind the items, and from a list to each of its items
-pub data IsEdge (items : List SharedItem) (lists : List (List ℕ)) (s t : ℕ) : Type 0 where
-  to_list : (r : Reference) → Refers items s r → r.list < length lists → t ≡ length items + r.list → IsEdge items lists s t
-  to_item : (l : ℕ) → s ≡ length items + l → Leads lists l t → t < length items → IsEdge items lists s t
+pub data IsListEdge (items : List SharedItem) (lists : List (List ℕ)) (s t : ℕ) : Type 0 where
+  to_list : (r : Reference) → RefersToList items s r → r.list < length lists → t ≡ length items + r.list → IsListEdge items lists s t
+  to_item : (l : ℕ) → s ≡ length items + l → Leads lists l t → t < length items → IsListEdge items lists s t
 
 -- item s stands right after one of its module
-pub record Follows (items : List SharedItem) (s : ℕ) : Type 0 where
+pub record FollowsItem (items : List SharedItem) (s : ℕ) : Type 0 where
   pub before : ℕ
   pub next : before + 1 ≡ s
   pub shared : ShareModule items before s
@@ -98,12 +99,12 @@ pub record Follows (items : List SharedItem) (s : ℕ) : Type 0 where
 -- item t is of the module that is told, if one is
 abbrev pub IsOwn : List SharedItem → Option ℕ → ℕ → Type 0
 IsOwn items None t = ⊥
-IsOwn items (Some m) t = IsOf items t m
+IsOwn items (Some m) t = IsItemOf items t m
 
 -- for each list a module may be told, of which all of its items are
 pub record AreSoles (items : List SharedItem) (lists : List (List ℕ)) (soles : List (Option ℕ)) : Type 0 where
   pub len : length soles ≡ length lists
-  pub each : (l t : ℕ) → Leads lists l t → (m : ℕ) → slice_index_or soles l None ≡ Some m → IsOf items t m
+  pub each : (l t : ℕ) → Leads lists l t → (m : ℕ) → slice_index_or soles l None ≡ Some m → IsItemOf items t m
 
 -- item s needs item t, by the ranks, if it depends on it so
 pub record IsNeeded (items : List SharedItem) (ranks : List ℕ) (s t : ℕ) (is_weak : Bool) : Type 0 where
@@ -115,7 +116,7 @@ pub record IsNeeded (items : List SharedItem) (ranks : List ℕ) (s t : ℕ) (is
 -- item s needs item t, by the ranks
 pub record NeedsByRank (items : List SharedItem) (lists : List (List ℕ)) (ranks : List ℕ) (s t : ℕ) : Type 0 where
   pub reference : Reference
-  pub refers : Refers items s reference
+  pub refers : RefersToList items s reference
   pub listed : Leads lists reference.list t
   pub needed : IsNeeded items ranks s t reference.is_weak
 

@@ -1,5 +1,4 @@
 pub mod Chains
-pub mod Classes
 pub mod Items
 pub mod Left
 pub mod Listed

@@ -3,7 +3,7 @@ use Rattle.std.specs.Prelude.{◌≡◌, ◌≢◌, ℕ, ◌<◌, Bool, List, le
 use Rattle.bundle_order_sort.specs.declared.SortItem.{SortItem}
 
 -- item s names item t as what it depends on, weakly or not; a number that is no item's, or its own, is no dependency
-pub record Names (items : List SortItem) (s t : ℕ) (is_weak : Bool) : Type 0 where
+pub record NamesListed (items : List SortItem) (s t : ℕ) (is_weak : Bool) : Type 0 where
   pub item : SortItem
   pub at : slice_get items s ≡ Some item
   pub listed : Contains item.dependencies.items (record { item = t; is_weak = is_weak })
@@ -11,5 +11,5 @@ pub record Names (items : List SortItem) (s t : ℕ) (is_weak : Bool) : Type 0 w
   pub other : t ≢ s
 
 -- item s depends on item t, weakly or not
-abbrev pub Depends : List SortItem → ℕ → ℕ → Type 0
-Depends items s t = (is_weak : Bool) × Names items s t is_weak
+abbrev pub DependsListed : List SortItem → ℕ → ℕ → Type 0
+DependsListed items s t = (is_weak : Bool) × NamesListed items s t is_weak

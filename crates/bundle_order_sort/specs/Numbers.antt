@@ -5,20 +5,20 @@ use Rattle.bundle_order_graph.specs.Walks.{Path}
 use Rattle.bundle_order_sort.specs.declared.stack.Progress.{Progress}
 
 -- the list of item s has item t
-abbrev pub Needs : List (List ℕ) → ℕ → ℕ → Type 0
-Needs needs s t = Contains (slice_index_or needs s []) t
+abbrev pub NeedsNumber : List (List ℕ) → ℕ → ℕ → Type 0
+NeedsNumber needs s t = Contains (slice_index_or needs s []) t
 
 -- t is an earlier item of the module of s; `firsts` has for each item the first of its module, and for a free item that item itself
-abbrev pub IsEarlier : List ℕ → ℕ → ℕ → Type 0
-IsEarlier firsts s t = (slice_index firsts s ≤ t) × (t < s)
+abbrev pub IsEarlierNumber : List ℕ → ℕ → ℕ → Type 0
+IsEarlierNumber firsts s t = (slice_index firsts s ≤ t) × (t < s)
 
 -- a step leads from an item to one that it needs, or to an earlier one of its module
-pub data Step (N : ℕ → ℕ → Type 0) (firsts : List ℕ) (s t : ℕ) : Type 0 where
-  by_need : N s t → Step N firsts s t
-  by_own_order : IsEarlier firsts s t → Step N firsts s t
+pub data NumberStep (N : ℕ → ℕ → Type 0) (firsts : List ℕ) (s t : ℕ) : Type 0 where
+  by_need : N s t → NumberStep N firsts s t
+  by_own_order : IsEarlierNumber firsts s t → NumberStep N firsts s t
 
 -- a stands before b
-pub record StandsBefore (order : List ℕ) (a b : ℕ) : Type 0 where
+pub record IsListedBefore (order : List ℕ) (a b : ℕ) : Type 0 where
   pub i : ℕ
   pub j : ℕ
   pub before : i < j
@@ -29,11 +29,12 @@ pub record StandsBefore (order : List ℕ) (a b : ℕ) : Type 0 where
 pub record IsInOrder (N : ℕ → ℕ → Type 0) (count : ℕ) (ranks firsts order : List ℕ) : Type 0 where
   pub all : (s : ℕ) → (s < count) ↔ Contains order s
   pub once : IsDistinct nat_eq order
-  pub own : (s t : ℕ) → IsEarlier firsts s t → StandsBefore order s t → Path (Step N firsts) t s
+  pub own : (s t : ℕ) → IsEarlierNumber firsts s t → IsListedBefore order s t →
+      Path (NumberStep N firsts) t s
   pub needed : (s t : ℕ) →
       N s t →
-      StandsBefore order s t →
-      (slice_index ranks s ≤ slice_index ranks t) × Path (Step N firsts) s s
+      IsListedBefore order s t →
+      (slice_index ranks s ≤ slice_index ranks t) × Path (NumberStep N firsts) s s
 
 -- How far the sort has come.
 

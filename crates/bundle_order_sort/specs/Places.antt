@@ -18,9 +18,9 @@ abbrev pub left_of : List ℕ → List ℕ → List ℕ
 left_of owners list = places_where 0 (λ owner. not (list_any (nat_eq owner) list)) owners
 
 -- for each item of several modules the number of its module, counted from k on
-abbrev pub numbers_from : {X : Type 0} → ℕ → List (List X) → List ℕ
-numbers_from k [] = []
-numbers_from k (items ∷ rest) = map (λ item. k) items ++ numbers_from (k + 1) rest
+abbrev pub module_numbers_from : {X : Type 0} → ℕ → List (List X) → List ℕ
+module_numbers_from k [] = []
+module_numbers_from k (items ∷ rest) = map (λ item. k) items ++ module_numbers_from (k + 1) rest
 
 -- modules reach each other
 abbrev pub ReachEachOther : Modules → ℕ → ℕ → Type 0
@@ -36,5 +36,5 @@ is_it m None = false
 is_it m (Some last) = nat_eq last m
 
 -- whether a module is the last of a list
-abbrev pub is_end : ℕ → List ℕ → Bool
-is_end m list = is_it m (slice_get list (length list - 1))
+abbrev pub is_list_end : ℕ → List ℕ → Bool
+is_list_end m list = is_it m (slice_get list (length list - 1))

@@ -6,19 +6,19 @@ use Rattle.bundle_order_graph.specs.Blocks.{BlocksOf}
 use Rattle.bundle_order_graph.specs.Order.{IsOrder}
 use Rattle.bundle_order_sort.specs.declared.plan.Block.{Block}
 use Rattle.bundle_order_sort.specs.declared.plan.Plan.{Plan}
-use Rattle.bundle_order_sort.specs.Merged.{Members}
-use Rattle.bundle_order_sort.specs.Places.{ReachEachOther, left_of, numbers_from, places_of}
+use Rattle.bundle_order_sort.specs.Merged.{MergedMembers}
+use Rattle.bundle_order_sort.specs.Places.{ReachEachOther, left_of, module_numbers_from, places_of}
 
 -- the block of these modules, where these are the modules of all items
-pub record IsBlock (owners : List ℕ) (members : Members) (block : Block) : Type 0 where
+pub record IsBlock (owners : List ℕ) (members : MergedMembers) (block : Block) : Type 0 where
   pub places : block.places.items ≡ flat_map (places_of owners) members.0
-  pub numbers : block.numbers.items ≡ numbers_from 0 (map (places_of owners) members.0)
+  pub numbers : block.numbers.items ≡ module_numbers_from 0 (map (places_of owners) members.0)
   pub cycle : block.is_cycle ≡ members.1
 
 -- the block of these modules, which is of one that does not request itself, or else is a cycle
 pub record IsPlanned (g : Modules) (owners members : List ℕ) (block : Block) : Type 0 where
   pub places : block.places.items ≡ flat_map (places_of owners) members
-  pub numbers : block.numbers.items ≡ numbers_from 0 (map (places_of owners) members)
+  pub numbers : block.numbers.items ≡ module_numbers_from 0 (map (places_of owners) members)
   pub lone : block.is_cycle ≡ false → (m : ℕ) × (members ≡ m ∷ []) × (Requests g m m → ⊥)
   pub cycle : block.is_cycle ≡ true → (m : ℕ) → members ≡ m ∷ [] → Requests g m m
 

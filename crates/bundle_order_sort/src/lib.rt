@@ -3,15 +3,15 @@
 #![tactic(auto)]
 
 pub mod arranging;
-pub(crate) mod classes;
 pub(crate) mod needs;
 mod plan;
 pub(crate) mod stack;
 mod table;
 
 ghost use Rattle.std.specs.Prelude.{IfOk, map};
-ghost use Rattle.bundle_order_sort.specs.Items.{IsGoodOrder};
+ghost use Rattle.bundle_order_sort.specs.Items.{IsGoodItemOrder};
 
+use bundle_order_graph::classes;
 use std::alloc::{AllocError, Global};
 
 /// That an item depends on another.
@@ -27,7 +27,7 @@ pub struct Dependency {
 #[derive(Drop)]
 pub struct SortItem {
     /// The number of its module.
-    pub module: usize,
+    pub which: usize,
     /// Its module's order does not bind it.
     pub is_free: bool,
     /// What it depends on. A number that is no item's, or its own, counts as none.
@@ -48,7 +48,7 @@ pub struct Reference {
 #[derive(Drop)]
 pub struct SharedItem {
     /// The number of its module.
-    pub module: usize,
+    pub which: usize,
     /// Its module's order does not bind it.
     pub is_free: bool,
     /// The lists on which it depends. A number that is no list's counts as none.
@@ -79,7 +79,7 @@ pub fn sort_shared(
     lists: Vec<Vec<usize>>,
 ) -> Result<Vec<usize>, AllocError>
     ensures { IfOk result (λ order.
-        IsGoodOrder items.now (map (λ v. v.items) lists.items) order.items) }
+        IsGoodItemOrder items.now (map (λ v. v.items) lists.items) order.items) }
 {
     let mut left = lists;
     let edges = needs::edges_of(alloc, items, &left)?;

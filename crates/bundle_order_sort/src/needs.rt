@@ -2,8 +2,8 @@
 
 ghost use Rattle.std.specs.Prelude.{◌≡◌, ℕ, ◌+◌, ◌<◌, ◌↔◌, IsTrue, IfOk, IfSome, Contains, map, length};
 ghost use Rattle.std.specs.List.{filter};
-ghost use Rattle.bundle_order_sort.specs.Classes.{Leads};
-ghost use Rattle.bundle_order_sort.specs.Items.{AreSoles, Follows, IsEarlier, IsEdge, IsNeeded, IsOf, IsOwn, ShareModule, is_within, number_behind, refers_within};
+ghost use Rattle.bundle_order_graph.specs.Classes.{Leads};
+ghost use Rattle.bundle_order_sort.specs.Items.{AreSoles, FollowsItem, IsEarlierItem, IsListEdge, IsNeeded, IsItemOf, IsOwn, ShareModule, is_within, number_behind, refers_within};
 ghost use Rattle.bundle_order_sort.specs.Numbers as numbers;
 
 use crate::{Reference, SharedItem};
@@ -21,7 +21,7 @@ pub(crate) fn edges_of(
     ensures each { IfOk result (λ edges.
         (s t : ℕ) →
         Leads (map (λ v. v.items) edges.items) s t
-        ↔ IsEdge items.now (map (λ v. v.items) lists.now) s t) }
+        ↔ IsListEdge items.now (map (λ v. v.items) lists.now) s t) }
 {
     let mut edges = Vec::new(alloc);
     for item in items {
@@ -86,7 +86,7 @@ pub(crate) fn soles_of(
 
 /// The module of all of these items, where they are of one and none is free.
 fn sole_of(items: &[SharedItem], list: &[usize]) -> Option<usize>
-    ensures { IfSome result (λ one. (t : ℕ) → Contains list.now t → IsOf items.now t one) }
+    ensures { IfSome result (λ one. (t : ℕ) → Contains list.now t → IsItemOf items.now t one) }
 {
     let module = first_module(items, list);
     for item in list {
@@ -104,15 +104,15 @@ fn first_module(items: &[SharedItem], list: &[usize]) -> usize {
     }
     let first = list[0];
     if first < items.len() {
-        items[first].module
+        items[first].which
     } else {
         0
     }
 }
 
 /// Whether an item is of a module, and not free.
-fn is_of(items: &[SharedItem], item: usize, module: usize) -> bool
-    ensures { IsTrue result ↔ IsOf items.now item «module» }
+fn is_of(items: &[SharedItem], item: usize, which: usize) -> bool
+    ensures { IsTrue result ↔ IsItemOf items.now item which }
 {
     if item >= items.len() {
         return false;
@@ -121,7 +121,7 @@ fn is_of(items: &[SharedItem], item: usize, module: usize) -> bool
     if one.is_free {
         return false;
     }
-    one.module == module
+    one.which == which
 }
 
 /// Whether the module of all items of a list, where there is one, is that of an item.
@@ -177,7 +177,7 @@ fn share_module(items: &[SharedItem], one: usize, other: usize) -> bool
     if second.is_free {
         return false;
     }
-    first.module == second.module
+    first.which == second.which
 }
 
 /// For each item the first of its module, and for a free item that item itself.
@@ -185,7 +185,7 @@ pub(crate) fn firsts_of(alloc: Global, items: &[SharedItem]) -> Result<Vec<usize
     ensures len { IfOk result (λ firsts. length firsts.items ≡ length items.now) }
     ensures each { IfOk result (λ firsts.
         (s t : ℕ) →
-        s < length items.now → numbers.IsEarlier firsts.items s t ↔ IsEarlier items.now s t) }
+        s < length items.now → numbers.IsEarlierNumber firsts.items s t ↔ IsEarlierItem items.now s t) }
 {
     let mut firsts = Vec::new(alloc);
     let mut first = 0;
@@ -201,7 +201,7 @@ pub(crate) fn firsts_of(alloc: Global, items: &[SharedItem]) -> Result<Vec<usize
 /// Whether an item stands right after one of its module.
 fn follows(items: &[SharedItem], number: usize) -> bool
     requires { number < length items.now }
-    ensures { IsTrue result ↔ Follows items.now number }
+    ensures { IsTrue result ↔ FollowsItem items.now number }
 {
     if number == 0 {
         return false;

@@ -2,8 +2,8 @@
 
 ghost use Rattle.std.specs.Prelude.{◌≡◌, ℕ, ◌++◌, ◌<◌, IfOk, IsTrue, List, OnOk, length, map, slice_index_or, [], ◌∷◌};
 ghost use Rattle.std.specs.List.{AllZip};
-ghost use Rattle.bundle_order_sort.specs.Places.{is_end, is_in_some, left_of};
-ghost use Rattle.bundle_order_sort.specs.Merged.{ends_at, merged};
+ghost use Rattle.bundle_order_sort.specs.Places.{is_list_end, is_in_some, left_of};
+ghost use Rattle.bundle_order_sort.specs.Merged.{ends_list_at, merged};
 ghost use Rattle.bundle_order_sort.specs.Plan.{IsBlock, IsPlanOf};
 ghost use Rattle.bundle_order_sort.specs.Rows.{AreRows};
 
@@ -82,7 +82,7 @@ fn blocks_of(
 
 // Whether a module is the last of the next cycle.
 fn ends_next(cycles: &[Vec<ModuleId>], next: usize, id: ModuleId) -> bool
-    ensures { result ≡ ends_at id (map (λ v. v.items) cycles.now) next }
+    ensures { result ≡ ends_list_at id (map (λ v. v.items) cycles.now) next }
 {
     match cycles.get(next) {
         Some(cycle) => ends(cycle, id),
@@ -92,7 +92,7 @@ fn ends_next(cycles: &[Vec<ModuleId>], next: usize, id: ModuleId) -> bool
 
 // Whether a module is the last of several.
 fn ends(cycle: &[ModuleId], id: ModuleId) -> bool
-    ensures { result ≡ is_end id cycle.now }
+    ensures { result ≡ is_list_end id cycle.now }
 {
     match cycle.last() {
         Some(last) => *last == id,

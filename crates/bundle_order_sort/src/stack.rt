@@ -18,8 +18,8 @@ ghost use Rattle.std.specs.Prelude.{◌≡◌, ℕ, ◌+◌, ◌-◌, ◌<◌, �
 ghost use Rattle.std.specs.List.{filter};
 ghost use Rattle.std.specs.List.Sorted.{IsStrictlyIncreasing};
 ghost use Rattle.bundle_order_sort.specs.Items.{AddsNeeds, AreSoles, IsNeeded, NeedsByRank};
-ghost use Rattle.bundle_order_sort.specs.Left.{IsLeft, KeepsLeft, is_left};
-ghost use Rattle.bundle_order_sort.specs.Numbers.{fresh, progress_of, Needs, IsInOrder, IsOut, is_awaited, AreSkips};
+ghost use Rattle.bundle_order_sort.specs.Left.{IsNeedLeft, KeepsLeft, is_left};
+ghost use Rattle.bundle_order_sort.specs.Numbers.{fresh, progress_of, NeedsNumber, IsInOrder, IsOut, is_awaited, AreSkips};
 ghost use Rattle.bundle_order_sort.specs.Chains.{Falls, WaitsForNone, AddsChain, AreChains};
 ghost use Rattle.bundle_order_sort.specs.Topmost.{IsTopmost};
 
@@ -98,7 +98,7 @@ fn put_out(
     requires firsts_len { length firsts.now ≡ length items.now }
     requires soles { AreSoles items.now (map (λ v. v.items) lists.old) soles.now }
     requires needs_len { length needs.old ≡ length items.now }
-    requires needs { (s t : ℕ) → Needs (map (λ v. v.items) needs.old) s t → ⊥ }
+    requires needs { (s t : ℕ) → NeedsNumber (map (λ v. v.items) needs.old) s t → ⊥ }
     requires skips_len { length skips.old ≡ length items.now }
     requires skips { (t : ℕ) → slice_index skips.old t ≡ 0 }
     requires cursors_len { length cursors.old ≡ length items.now }
@@ -158,7 +158,7 @@ fn put_out(
 fn empty_lists(alloc: Global, count: usize) -> Result<Vec<Vec<usize>>, AllocError>
     ensures len { IfOk result (λ lists. length lists.items ≡ count) }
     ensures none { IfOk result (λ lists.
-        (s t : ℕ) → Needs (map (λ v. v.items) lists.items) s t → ⊥) }
+        (s t : ℕ) → NeedsNumber (map (λ v. v.items) lists.items) s t → ⊥) }
 {
     let mut lists: Vec<Vec<usize>> = Vec::new(alloc);
     for _ in 0..count {
@@ -229,7 +229,7 @@ fn add_left(
         ((t : ℕ) →
         Contains needed.new.items t
         ↔ (Contains needed.old.items t
-        ⊎ IsLeft items.now (map (λ v. v.items) lists.old) ranks.now progress.now item reference t)) }
+        ⊎ IsNeedLeft items.now (map (λ v. v.items) lists.old) ranks.now progress.now item reference t)) }
     ensures left { OnOk result
         (KeepsLeft progress.now (map (λ v. v.items) lists.old) (map (λ v. v.items) lists.new)) }
 {

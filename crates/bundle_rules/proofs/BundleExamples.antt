@@ -3,8 +3,8 @@
 use Rattle.std.proofs.Common.{◌≡◌, ℕ, Bool, zero, suc, ◌<◌, true, false, List, [], ◌∷◌, length, inr, Option, Some, None, refl, sym, subst, ap, ◌∙◌, arith, lit<, true≢false}
 use Rattle.std.specs.Prelude.{codes, Contains, slice_get, slice_index_or}
 use Rattle.std.specs.List.{AllZip}
-use Rattle.bundle_tree_piece.specs.Item as h
-use Rattle.bundle_tree_piece.specs.Item.{Item}
+use Rattle.bundle_syntax.specs.Item as h
+use Rattle.bundle_syntax.specs.Item.{Item}
 use Rattle.bundle_rules.specs.Scopes.{ModuleKind, Es, Cjs, Top}
 use Rattle.bundle_rules.specs.Declarations.{Reading, BySymbol, ByContext}
 use Rattle.bundle_rules.specs.Denotes.{Denoted, Global}
@@ -19,7 +19,7 @@ use Rattle.bundle_rules.specs.Linking.{IsCommonJs, Target, Gives, declaration, n
 use Rattle.bundle_rules.specs.Meaning.{Mark, Begins, Ends, Name, Unbound, Label, Replacement, Replaced, OwnName, at_top, parameter, static_read, import_meta, require_call, ReadsAs, by_name, by_read, is_meta_at, OwnMeaning, is_es, is_common_js, HasKind, own_view, denoted, bundle_sense, StatementMeans, begun, ended, finished, named, unbound, SaysAt, says_name, says_node, IsMeant, by_statement, by_export, by_namespace}
 use Rattle.bundle_rules.specs.Bundle.{Form, AsModule, AsCall, Cause, Own, Exports, Helps, HoldsNamespace, IsDue, own, imports_names, imports_whole, imports_nothing, helps, defines, loads, holds_meta, holds_namespace, stars, exports, returns, Hooks, Pairing, IsPaired, IsLaidOut, IsBundle, of_module, of_function, HasBody, Chosen, nothing, chosen, left, lone, next, over as no_blocks, IsUsed}
 use Rattle.bundle_rules.specs.Bundle as bundle
-use Rattle.bundle_tree_piece.specs.declared.piece.Role.TheVariants.{Reference}
+use Rattle.bundle_syntax.specs.declared.piece.Role.TheVariants.{Reference}
 use Rattle.bundle_rules.proofs.Trees.{node, module_of, runs, argument, calls}
 use Rattle.bundle_rules.specs.Kept.{Kept, program_of}
 use Rattle.bundle_rules.proofs.Programs.{main_js, loaded}
@@ -195,7 +195,7 @@ meant_nothing how l (by_namespace {d = d} {x = x} meant linked) = meant_nothing 
 -- What is due is the one statement.
 
 pub no_external : (how : Setup) (s : Text) → IsUsed (p how) s → ⊥
-no_external how s used = no_element s (subst (λ n. Contains (Rattle.bundle_rules.specs.Entries.declared_requests (tree_of (p how) n)) s) (only_main how used.«module» used.reached) used.asks)
+no_external how s used = no_element s (subst (λ n. Contains (Rattle.bundle_rules.specs.Entries.declared_requests (tree_of (p how) n)) s) (only_main how used.which used.reached) used.asks)
 
 pub below_one : (k : ℕ) → k < 1 → k ≡ 0
 below_one k h = omega arith

@@ -1,9 +1,9 @@
 -- The meaning of a list of elements as a computation, for trees in which nothing is replaced; and that it is the meaning.
 use Rattle.std.proofs.Common.{◌≡◌, ℕ, List, [], ◌∷◌, ◌++◌, Option, Some, None, refl, sym, subst}
 use Rattle.std.specs.Prelude.{position, option_map, option_and_then}
-use Rattle.bundle_tree_piece.specs.declared.piece.Role.TheVariants.{Binding, Reference, Word as IsWord}
-use Rattle.bundle_tree_piece.specs.Item as h
-use Rattle.bundle_tree_piece.specs.Item.{Item}
+use Rattle.bundle_syntax.specs.declared.piece.Role.TheVariants.{Binding, Reference, Word as IsWord}
+use Rattle.bundle_syntax.specs.Item as h
+use Rattle.bundle_syntax.specs.Item.{Item}
 use Rattle.bundle_rules.specs.Places.{path_at}
 use Rattle.bundle_rules.specs.Denotes.{Denoted, Bound, Global, denoted_at}
 use Rattle.bundle_rules.specs.Statements.{Element, taken, written}

@@ -1,9 +1,9 @@
 -- The numbers of scopes and bindings of small trees.
 use Rattle.std.specs.Prelude.{◌≡◌, List, [], ◌++◌, codes}
 use mathlib.Core.Path.{refl}
-use Rattle.bundle_tree_leaf.specs.declared.kind.VarDeclKind.TheVariants as v
-use Rattle.bundle_tree_piece.specs.Item as h
-use Rattle.bundle_tree_piece.specs.Item.{Item}
+use Rattle.bundle_syntax.specs.declared.kind.VarDeclKind.TheVariants as v
+use Rattle.bundle_syntax.specs.Item as h
+use Rattle.bundle_syntax.specs.Item.{Item}
 use Rattle.bundle_rules.specs.Scopes.{Es, Cjs}
 use Rattle.bundle_rules.specs.Counts.{scope_count, binding_count}
 use Rattle.bundle_rules.proofs.SmallTrees.{node, declares_in, block_of, parameter, declares_function}

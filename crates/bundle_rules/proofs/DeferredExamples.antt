@@ -1,8 +1,8 @@
 -- What runs later in small trees.
 use Rattle.std.specs.Prelude.{◌≡◌, Bool as Truth, true, false, List, [], ◌∷◌, ◌++◌, codes, map}
 use mathlib.Core.Path.{refl}
-use Rattle.bundle_tree_piece.specs.Item as h
-use Rattle.bundle_tree_piece.specs.Item.{Item}
+use Rattle.bundle_syntax.specs.Item as h
+use Rattle.bundle_syntax.specs.Item.{Item}
 use Rattle.bundle_rules.specs.Places.{Occurrence, occurrences}
 use Rattle.bundle_rules.specs.Deferred.{runs_later}
 use Rattle.bundle_rules.proofs.SmallTrees.{node, binding, reference, pattern_of, reads, block_of}

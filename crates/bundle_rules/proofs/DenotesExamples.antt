@@ -2,11 +2,11 @@
 use Rattle.std.specs.Prelude.{◌≡◌, ℕ, zero, suc, List, [], ◌∷◌, ◌++◌, ◌-◌, Some, None, codes}
 use mathlib.Core.Path.{refl, sym, ap, ◌∙◌}
 use Rattle.std.proofs.lemmas.Option.{same_Some}
-use Rattle.bundle_tree_piece.specs.declared.piece.Role.TheVariants as r
+use Rattle.bundle_syntax.specs.declared.piece.Role.TheVariants as r
 use native.Mathlib.Omega.{arith}
-use Rattle.bundle_tree_leaf.specs.declared.kind.VarDeclKind.TheVariants as v
-use Rattle.bundle_tree_piece.specs.Item as h
-use Rattle.bundle_tree_piece.specs.Item.{Item}
+use Rattle.bundle_syntax.specs.declared.kind.VarDeclKind.TheVariants as v
+use Rattle.bundle_syntax.specs.Item as h
+use Rattle.bundle_syntax.specs.Item.{Item}
 use Rattle.bundle_rules.specs.Places.{Occurrence, occurrence_at}
 use Rattle.bundle_rules.specs.Scopes.{Es, Cjs, Parameters, Block, Top, Wrapper, Inner}
 use Rattle.bundle_rules.specs.Declarations.{BySymbol, ByContext, Name}

@@ -1,10 +1,10 @@
 -- By symbol, each name of a cleared tree is declared and denotes as in the tree.
 use Rattle.std.proofs.Common.{◌≡◌, ℕ, ◌||◌, cond, List, [], ◌∷◌, ◌++◌, Option, Some, None, option_map, option_and_then, filter, find, map, refl, ◌∙◌}
 use Rattle.std.specs.List.{cons_option}
-use Rattle.bundle_tree_leaf.specs.declared.kind.VarDeclKind.{VarDeclKind}
-use Rattle.bundle_tree_leaf.specs.declared.kind.VarDeclKind.TheVariants as v
-use Rattle.bundle_tree_piece.specs.Item as h
-use Rattle.bundle_tree_piece.specs.Item.{Item, Head}
+use Rattle.bundle_syntax.specs.declared.kind.VarDeclKind.{VarDeclKind}
+use Rattle.bundle_syntax.specs.declared.kind.VarDeclKind.TheVariants as v
+use Rattle.bundle_syntax.specs.Item as h
+use Rattle.bundle_syntax.specs.Item.{Item, Head}
 use Rattle.bundle_rules.specs.Places.{Around, Spot, past, start, Occurrence, occurrence_of, occurrence_at, occurrences, is_binding}
 use Rattle.bundle_rules.specs.Scopes.{ModuleKind, FunctionName, ClassName, block_in, block_kind, exports_default, is_default, kind_of_scope, scope_at, scopes_around}
 use Rattle.bundle_rules.specs.Declarations.{ByLet, ByConst, ByLoop, ByFunction, ByFunctionName, ByClass, ByClassName, is_pattern, is_loop_head, heads_loop, way_of_kind, way_of_variable, way_of_declarator, way_in, way_of, BySymbol, name_of, Declared, declared_by, declaration_of, is_nameless_default, nameless_default, declared_at, declared_from, wrapper_parameters, declared}

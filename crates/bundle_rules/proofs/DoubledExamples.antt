@@ -1,9 +1,9 @@
 -- Names that are declared twice, where only one may be, and where both may.
 use Rattle.std.specs.Prelude.{◌≡◌, ℕ, List, [], ◌++◌, Option, Some, None, codes, option_map}
 use mathlib.Core.Path.{refl}
-use Rattle.bundle_tree_leaf.specs.declared.kind.VarDeclKind.TheVariants as v
-use Rattle.bundle_tree_piece.specs.Item as h
-use Rattle.bundle_tree_piece.specs.Item.{Item}
+use Rattle.bundle_syntax.specs.declared.kind.VarDeclKind.TheVariants as v
+use Rattle.bundle_syntax.specs.Item as h
+use Rattle.bundle_syntax.specs.Item.{Item}
 use Rattle.bundle_rules.specs.Scopes.{ModuleKind, Es, Cjs}
 use Rattle.bundle_rules.specs.Declarations.{Declared}
 use Rattle.bundle_rules.specs.Doubled.{first_doubled}

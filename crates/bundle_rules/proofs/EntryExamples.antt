@@ -1,6 +1,6 @@
 -- Examples of requests, imports and exports.
 use Rattle.std.specs.Prelude.{◌≡◌, ℕ, Bool, true, false, [], ◌∷◌, ◌++◌, codes, refl}
-use Rattle.bundle_tree_piece.specs.Item as h
+use Rattle.bundle_syntax.specs.Item as h
 use Rattle.bundle_rules.specs.Entries.{Named, Whole, Local, Indirect, Star, imports_of, exports_of, requests_of, Settings, is_script}
 use Rattle.bundle_rules.proofs.Trees.{node, module_of, number, exports_const, imports, imports_all, exports_all, exports_from, exports_all_as, exports_name, exports_default, runs, calls, requires, uses, string, argument}
 

@@ -1,7 +1,7 @@
 -- What a cleared tree imports, exports, lists and asks for: what the tree does.
 use Rattle.std.proofs.Common.{◌≡◌, ℕ, zero, suc, Bool, true, false, List, [], ◌∷◌, ◌++◌, Option, Some, None, filter, flat_map, map, unwrap_or, refl, ap, ◌∙◌}
-use Rattle.bundle_tree_piece.specs.Item as h
-use Rattle.bundle_tree_piece.specs.Item.{Item, Head}
+use Rattle.bundle_syntax.specs.Item as h
+use Rattle.bundle_syntax.specs.Item.{Item, Head}
 use Rattle.bundle_rules.specs.Nodes.{Text, in_field, child, string_of, name_of, begins_with}
 use Rattle.bundle_rules.specs.Statements.{top_items, default_name}
 use Rattle.bundle_rules.specs.Entries.{Named, Whole, ImportEntry, Local, Indirect, Star, text_in, taken_by, import_entry, imports_by, imports_of_item, imports_of, is_in_pattern, is_binding, names_bound, declared_by, names_declared, export_of, entry_from, entry_here, entries_of_list, default_declared, exports_by, exports_of_item, exports_of, requests_by, requests_of_item, declared_requests}

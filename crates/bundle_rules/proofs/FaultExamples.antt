@@ -1,12 +1,12 @@
 -- Examples of faults: one of each kind that the definitions decide by themselves.
 use Rattle.std.proofs.Common.{◌≡◌, ℕ, zero, suc, true, false, List, [], ◌∷◌, ◌++◌, ◌⊎◌, inl, inr, Option, Some, None, refl, sym, subst, ◌∙◌, arith, lit<, lit≤, true≢false}
 use Rattle.std.specs.Prelude.{◌<◌, codes, Contains, slice_index_or}
-use Rattle.bundle_tree_leaf.specs.declared.kind.VarDeclKind.TheVariants.{Let}
-use Rattle.bundle_tree_leaf.specs.declared.operator.AssignOp.TheVariants.{Assign}
-use Rattle.bundle_tree_piece.specs.Item as h
-use Rattle.bundle_tree_piece.specs.Item.{Item}
+use Rattle.bundle_syntax.specs.declared.kind.VarDeclKind.TheVariants.{Let}
+use Rattle.bundle_syntax.specs.declared.operator.AssignOp.TheVariants.{Assign}
+use Rattle.bundle_syntax.specs.Item as h
+use Rattle.bundle_syntax.specs.Item.{Item}
 use Rattle.bundle_rules.specs.Nodes.{Text}
-use Rattle.bundle_tree_piece.specs.declared.piece.Role.TheVariants.{Reference}
+use Rattle.bundle_syntax.specs.declared.piece.Role.TheVariants.{Reference}
 use Rattle.bundle_rules.specs.Places.{Around, path_at}
 use Rattle.bundle_order_graph.specs.Walks.{itself}
 use Rattle.bundle_rules.specs.Statements.{no_notes, taken_from, taken as element}

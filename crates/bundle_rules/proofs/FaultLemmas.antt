@@ -1,7 +1,7 @@
 -- What is wrong with a cleared tree by itself is what is wrong with the tree, at the same places.
 use Rattle.std.proofs.Common.{◌≡◌, ℕ, List, Option, Some, None, slice_get, option_map, inl, inr, ap, sym, ◌∙◌}
-use Rattle.bundle_tree_piece.specs.Item as h
-use Rattle.bundle_tree_piece.specs.Item.{Item, Head}
+use Rattle.bundle_syntax.specs.Item as h
+use Rattle.bundle_syntax.specs.Item.{Item, Head}
 use Rattle.bundle_tree_names.specs.FileName.{Name}
 use Rattle.bundle_rules.specs.Nodes.{has_text}
 use Rattle.bundle_rules.specs.Faults.{Fault, TreeFault, doubled_export, undeclared_export, with_statement, IsFirstTreeFault, IsFaultless}

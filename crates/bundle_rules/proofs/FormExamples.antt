@@ -1,8 +1,8 @@
 -- Bundles that are one function's call, and forms that are built.
 use Rattle.std.proofs.Common.{◌≡◌, false, List, [], ◌++◌, refl}
 use Rattle.std.specs.Prelude.{codes}
-use Rattle.bundle_tree_piece.specs.Item as h
-use Rattle.bundle_tree_piece.specs.Item.{Item}
+use Rattle.bundle_syntax.specs.Item as h
+use Rattle.bundle_syntax.specs.Item.{Item}
 use Rattle.bundle_rules.specs.Statements.{no_notes}
 use Rattle.bundle_rules.specs.Bundle.{AsModule}
 use Rattle.bundle_rules.specs.Forms.{wrapped, in_form, called_function}

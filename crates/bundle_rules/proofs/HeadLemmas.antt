@@ -1,9 +1,9 @@
 -- What is read of a head, where it is the same whatever is noted on it.
 use Rattle.std.proofs.Common.{◌≡◌, refl}
-use Rattle.bundle_tree_leaf.specs.declared.kind.ExportMetadata.{ExportMetadata}
-use Rattle.bundle_tree_leaf.specs.declared.kind.VarDeclKind.{VarDeclKind}
-use Rattle.bundle_tree_piece.specs.Item as h
-use Rattle.bundle_tree_piece.specs.Item.{Head}
+use Rattle.bundle_syntax.specs.declared.kind.ExportMetadata.{ExportMetadata}
+use Rattle.bundle_syntax.specs.declared.kind.VarDeclKind.{VarDeclKind}
+use Rattle.bundle_syntax.specs.Item as h
+use Rattle.bundle_syntax.specs.Item.{Head}
 use Rattle.bundle_rules.specs.Statements.{no_notes}
 use Rattle.bundle_rules.specs.Cleared.{cleared_head}
 

@@ -4,8 +4,8 @@ use Rattle.std.proofs.Common.{◌≡◌, ℕ, Bool, zero, suc, ◌<◌, true, fa
 use Rattle.std.specs.Prelude.{◌⊎◌, Contains, cond, slice_get}
 use Rattle.bundle_tree_names.specs.FileName.{name_eq}
 use Rattle.bundle_rules.specs.Program.{Loaded, tree_of}
-use Rattle.bundle_tree_piece.specs.Item as h
-use Rattle.bundle_tree_piece.specs.Item.{Item, Head}
+use Rattle.bundle_syntax.specs.Item as h
+use Rattle.bundle_syntax.specs.Item.{Item, Head}
 use Rattle.bundle_rules.specs.Entries.{Settings, ExportEntry, has_import_meta}
 use Rattle.bundle_rules.specs.Kept.{Kept, Answers, nothing_kept, number_in, kept_module, kept_file}
 use Rattle.bundle_rules.specs.Bundle as b

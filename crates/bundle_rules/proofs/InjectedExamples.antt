@@ -1,11 +1,11 @@
 -- The injected forms, against trees that are written out.
 use Rattle.std.proofs.Common.{◌≡◌, ℕ, true, false, List, [], ◌∷◌, ◌++◌, Option, Some, None, refl}
 use Rattle.std.specs.Prelude.{codes, bytes_eq, if◌then◌else◌, drop, take}
-use Rattle.bundle_tree_leaf.specs.declared.kind.VarDeclKind.TheVariants.{Const, Var}
-use Rattle.bundle_tree_leaf.specs.declared.operator.AssignOp.TheVariants.{Assign}
-use Rattle.bundle_tree_leaf.specs.declared.operator.UnaryOp.TheVariants.{Bang}
-use Rattle.bundle_tree_piece.specs.Item as h
-use Rattle.bundle_tree_piece.specs.Item.{Item}
+use Rattle.bundle_syntax.specs.declared.kind.VarDeclKind.TheVariants.{Const, Var}
+use Rattle.bundle_syntax.specs.declared.operator.AssignOp.TheVariants.{Assign}
+use Rattle.bundle_syntax.specs.declared.operator.UnaryOp.TheVariants.{Bang}
+use Rattle.bundle_syntax.specs.Item as h
+use Rattle.bundle_syntax.specs.Item.{Item}
 use Rattle.bundle_rules.specs.Scopes.{Es}
 use Rattle.bundle_rules.specs.Declarations.{BySymbol}
 use Rattle.bundle_rules.specs.Denotes.{Denoted, Bound, Global}
@@ -16,7 +16,7 @@ use Rattle.bundle_rules.specs.Linking.{Declared, Namespace, External, CommonJs}
 use Rattle.bundle_rules.specs.Meaning.{Label, Of, Parameter, Load, Helper, Mark, View, inner_bindings}
 use Rattle.bundle_rules.specs.Injected.{helper_function, namespace_object, import_names, export_list, load_statement, load_front, load_back}
 use Rattle.bundle_rules.specs.Bundle.{function_front, function_back}
-use Rattle.bundle_tree_piece.specs.declared.piece.Role.TheVariants.{Binding, Reference}
+use Rattle.bundle_syntax.specs.declared.piece.Role.TheVariants.{Binding, Reference}
 use Rattle.bundle_rules.specs.Forms.{IsNamespaceItem, IsLoadItem, IsHelperItem}
 use Rattle.bundle_rules.proofs.Trees.{node, module_of, binds, uses, names, word, string, number, declares, member, argument, runs, calls}
 use Rattle.bundle_rules.proofs.Computed.{computed}

@@ -1,7 +1,7 @@
 -- Examples of what modules give: one for each clause, and one name of each kind.
 use Rattle.std.proofs.Common.{◌≡◌, ℕ, zero, suc, List, [], ◌++◌, Option, Some, None, inl, inr, refl, sym, subst, arith, lit<, true≢false}
 use Rattle.std.specs.Prelude.{codes, Contains}
-use Rattle.bundle_tree_piece.specs.Item.{Item}
+use Rattle.bundle_syntax.specs.Item.{Item}
 use Rattle.bundle_rules.specs.Nodes.{Text}
 use Rattle.bundle_rules.specs.Entries.{import_of, ImportEntry, Named, ExportEntry, Local, Indirect, Star}
 use Rattle.bundle_rules.specs.Program.{Program, requested, Requests, IsReached}
@@ -47,11 +47,11 @@ gives_external : Gives p 0 (codes "e") (External (codes "ext") (Named x)) None
 gives_external = taken (2, lit< tt, refl) (of_external refl)
 
 -- b gives the namespace of a, which goes with b and its name n
-gives_with_origin : Gives p 2 (codes "z") (Namespace 1) (Some (record { «module» = 2; local = codes "n" }))
+gives_with_origin : Gives p 2 (codes "z") (Namespace 1) (Some (record { which = 2; local = codes "n" }))
 gives_with_origin = namespace_import _ (0, lit< tt, refl) refl (of_module (a_from 2 refl))
 
 -- main gives by its star what b gives, with the origin
-gives_by_star : Gives p 0 (codes "z") (Namespace 1) (Some (record { «module» = 2; local = codes "n" }))
+gives_by_star : Gives p 0 (codes "z") (Namespace 1) (Some (record { which = 2; local = codes "n" }))
 gives_by_star = starred refl (λ e. grind arith) (3, lit< tt, refl) (record { resolved = refl; es = es 2 }) gives_with_origin
 
 -- c stars the external, beside itself

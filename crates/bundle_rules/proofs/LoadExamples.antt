@@ -1,9 +1,9 @@
 -- The function of a CommonJS module: that of `f(1);` is `var load = __swcpack_require__(function (module, exports) { f(1); });`.
 use Rattle.std.proofs.Common.{◌≡◌, ℕ, false, List, [], ◌∷◌, ◌++◌, Some, None, refl, sym, subst, ap, lit<}
 use Rattle.std.specs.Prelude.{codes, slice_get, take, drop}
-use Rattle.bundle_tree_leaf.specs.declared.kind.VarDeclKind.TheVariants.{Var}
-use Rattle.bundle_tree_piece.specs.Item as h
-use Rattle.bundle_tree_piece.specs.Item.{Item}
+use Rattle.bundle_syntax.specs.declared.kind.VarDeclKind.TheVariants.{Var}
+use Rattle.bundle_syntax.specs.Item as h
+use Rattle.bundle_syntax.specs.Item.{Item}
 use Rattle.bundle_rules.specs.Scopes.{Top, Inner, Parameters}
 use Rattle.bundle_rules.specs.Declarations.{BySymbol}
 use Rattle.bundle_rules.specs.Denotes.{Denoted, Bound, Global}

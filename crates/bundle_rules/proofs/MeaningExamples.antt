@@ -1,11 +1,11 @@
 -- Examples of meanings.
 use Rattle.std.proofs.Common.{◌≡◌, ℕ, zero, suc, true, false, List, [], ◌∷◌, ◌++◌, length, Some, None, refl, sym, ap, subst, ◌∙◌, arith, lit<, true≢false}
 use Rattle.std.specs.Prelude.{◌==◌, Bool, codes, drop, if◌then◌else◌}
-use Rattle.bundle_tree_piece.specs.Item as h
-use Rattle.bundle_tree_piece.specs.Item.{Item}
-use Rattle.bundle_tree_leaf.specs.declared.kind.VarDeclKind.TheVariants.{Const}
-use Rattle.bundle_tree_leaf.specs.declared.operator.AssignOp.TheVariants.{Assign}
-use Rattle.bundle_tree_leaf.specs.declared.operator.UnaryOp.TheVariants.{Delete}
+use Rattle.bundle_syntax.specs.Item as h
+use Rattle.bundle_syntax.specs.Item.{Item}
+use Rattle.bundle_syntax.specs.declared.kind.VarDeclKind.TheVariants.{Const}
+use Rattle.bundle_syntax.specs.declared.operator.AssignOp.TheVariants.{Assign}
+use Rattle.bundle_syntax.specs.declared.operator.UnaryOp.TheVariants.{Delete}
 use Rattle.bundle_rules.specs.Scopes.{Es, Top, Inner, Parameters}
 use Rattle.bundle_rules.specs.Declarations.{BySymbol, Name as SourceName}
 use Rattle.bundle_rules.specs.Denotes.{Bound, Global, denoted_at}

@@ -1,8 +1,8 @@
 -- How a meaning begins, by how the statement does.
 use Rattle.std.proofs.Common.{◌≡◌, ℕ, List, [], ◌∷◌, ◌++◌, Some, refl}
-use Rattle.bundle_tree_piece.specs.declared.piece.Role.TheVariants.{Reference}
-use Rattle.bundle_tree_piece.specs.Item as h
-use Rattle.bundle_tree_piece.specs.Item.{Head}
+use Rattle.bundle_syntax.specs.declared.piece.Role.TheVariants.{Reference}
+use Rattle.bundle_syntax.specs.Item as h
+use Rattle.bundle_syntax.specs.Item.{Head}
 use Rattle.bundle_rules.specs.Places.{path_at}
 use Rattle.bundle_rules.specs.Denotes.{Denoted, Global}
 use Rattle.bundle_rules.specs.Nodes.{Text}

@@ -1,9 +1,9 @@
 -- What is meant, place by place.
 use Rattle.std.proofs.Common.{◌≡◌, ℕ, zero, suc, ◌<◌, List, [], ◌++◌, Option, refl, sym, subst, arith, lit<, true≢false}
 use Rattle.std.specs.Prelude.{codes, Contains, slice_index_or}
-use Rattle.bundle_tree_piece.specs.declared.piece.Role.TheVariants.{Reference}
-use Rattle.bundle_tree_piece.specs.Item as h
-use Rattle.bundle_tree_piece.specs.Item.{Item}
+use Rattle.bundle_syntax.specs.declared.piece.Role.TheVariants.{Reference}
+use Rattle.bundle_syntax.specs.Item as h
+use Rattle.bundle_syntax.specs.Item.{Item}
 use Rattle.bundle_rules.specs.Places.{Around, path_at}
 use Rattle.bundle_order_graph.specs.Walks.{itself}
 use Rattle.bundle_rules.specs.Nodes.{Text}

@@ -2,10 +2,10 @@
 use Rattle.std.proofs.Common.{◌≡◌, ℕ, zero, suc, true, false, List, [], ◌∷◌, ◌++◌, Some, None, refl, sym, ap, ◌∙◌, arith, lit<, true≢false}
 use Rattle.std.specs.Prelude.{Contains, codes, option_map, slice_get}
 use Rattle.std.proofs.lemmas.Option.{none-some, same_Some}
-use Rattle.bundle_tree_leaf.specs.declared.kind.VarDeclKind.TheVariants.{Const, Let, Var}
-use Rattle.bundle_tree_piece.specs.Item as h
-use Rattle.bundle_tree_piece.specs.Item.{Item}
-use Rattle.bundle_tree_piece.specs.declared.piece.Role.TheVariants.{Binding, Reference}
+use Rattle.bundle_syntax.specs.declared.kind.VarDeclKind.TheVariants.{Const, Let, Var}
+use Rattle.bundle_syntax.specs.Item as h
+use Rattle.bundle_syntax.specs.Item.{Item}
+use Rattle.bundle_syntax.specs.declared.piece.Role.TheVariants.{Binding, Reference}
 use Rattle.bundle_rules.specs.Places.{Occurrence, occurrences}
 use Rattle.bundle_rules.specs.Scopes.{Es, Top}
 use Rattle.bundle_rules.specs.Declarations.{ByContext, Declared as Declaration, declared}

@@ -1,8 +1,8 @@
 -- The nodes of a tree and of it cleared: the same, cleared each, with the same texts.
 use Rattle.std.proofs.Common.{◌≡◌, ℕ, zero, suc, ◌+◌, Bool, true, false, cond, ◌||◌, List, [], ◌∷◌, ◌++◌, length, filter, flat_map, map, unwrap_or, refl, ap, sym as back, ◌∙◌}
 use Rattle.std.specs.List.{list_any}
-use Rattle.bundle_tree_piece.specs.Item as h
-use Rattle.bundle_tree_piece.specs.Item.{Item, Head}
+use Rattle.bundle_syntax.specs.Item as h
+use Rattle.bundle_syntax.specs.Item.{Item, Head}
 use Rattle.bundle_rules.specs.Nodes.{put_first, side_by_side, parts, field_of, is_some_number, begins_in, in_field, first_or_nothing, child, head_string, head_word, string_of, name_of, begins_with, has_head}
 use Rattle.bundle_rules.specs.Statements.{placed, top_items}
 use Rattle.bundle_rules.specs.Entries.{text_in, renamed_text}

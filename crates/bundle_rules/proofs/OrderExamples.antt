@@ -1,11 +1,11 @@
 -- Examples of the list of a program, and of what items need.
 use Rattle.std.proofs.Common.{◌≡◌, ◌≢◌, ℕ, zero, suc, true, false, List, [], ◌∷◌, ◌++◌, inl, inr, Option, Some, None, refl, arith, lit<}
 use Rattle.std.specs.Prelude.{codes, Contains, take, drop}
-use Rattle.bundle_tree_leaf.specs.declared.kind.VarDeclKind.TheVariants.{Const, Var}
-use Rattle.bundle_tree_leaf.specs.declared.operator.AssignOp.TheVariants.{Assign}
-use Rattle.bundle_tree_piece.specs.Item as h
-use Rattle.bundle_tree_piece.specs.Item.{Item}
-use Rattle.bundle_tree_piece.specs.declared.piece.Role.TheVariants.{Binding, Reference}
+use Rattle.bundle_syntax.specs.declared.kind.VarDeclKind.TheVariants.{Const, Var}
+use Rattle.bundle_syntax.specs.declared.operator.AssignOp.TheVariants.{Assign}
+use Rattle.bundle_syntax.specs.Item as h
+use Rattle.bundle_syntax.specs.Item.{Item}
+use Rattle.bundle_syntax.specs.declared.piece.Role.TheVariants.{Binding, Reference}
 use Rattle.bundle_rules.specs.Scopes.{Top, Inner, FunctionBody}
 use Rattle.bundle_rules.specs.Declarations.{BySymbol, ByContext}
 use Rattle.bundle_order_graph.specs.Walks.{itself, along}

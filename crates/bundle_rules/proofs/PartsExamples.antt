@@ -1,7 +1,7 @@
 -- Examples of lists of items by module.
 use Rattle.std.specs.Prelude.{◌≡◌, true, false, ◌==◌, List, [], ◌∷◌, ◌++◌, codes}
 use Rattle.std.proofs.Common.{refl}
-use Rattle.bundle_tree_piece.specs.Item.{Item}
+use Rattle.bundle_syntax.specs.Item.{Item}
 use Rattle.bundle_rules.specs.Parts.{Parts, no_parts, parts_of, in_order, body_of, with_prepended, with_appended, with_all_appended, joined, with_lists, with_items, with_only}
 use Rattle.bundle_rules.proofs.Trees.{module_of, uses, runs}
 

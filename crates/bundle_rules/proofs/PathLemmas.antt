@@ -1,9 +1,9 @@
 -- Places, the nodes around them and occurrences, of a tree and of it cleared.
 use Rattle.std.proofs.Common.{◌≡◌, ℕ, zero, suc, ◌+◌, List, [], ◌∷◌, Option, Some, None, take, fold, slice_get, option_map, option_and_then, map, refl, ◌∙◌}
 use Rattle.std.specs.List.{cons_option}
-use Rattle.bundle_tree_piece.specs.declared.piece.Role.TheVariants.{Binding, Reference, Word}
-use Rattle.bundle_tree_piece.specs.Item as h
-use Rattle.bundle_tree_piece.specs.Item.{Item}
+use Rattle.bundle_syntax.specs.declared.piece.Role.TheVariants.{Binding, Reference, Word}
+use Rattle.bundle_syntax.specs.Item as h
+use Rattle.bundle_syntax.specs.Item.{Item}
 use Rattle.bundle_rules.specs.Places.{Around, Spot, Occurrence, in_field, outer_path, path_past, past, start, spot_before, path_to, path_to_option, path_at, occurrence_of, occurrence_at, occurrences_from, occurrences}
 use Rattle.bundle_rules.specs.Cleared.{cleared_head, cleared_item, cleared}
 

@@ -1,9 +1,9 @@
 -- Small lists, and what stands where in them.
 use Rattle.std.specs.Prelude.{◌≡◌, false, List, [], ◌∷◌, codes}
 use mathlib.Core.Path.{refl}
-use Rattle.bundle_tree_piece.specs.declared.piece.Role.TheVariants as r
-use Rattle.bundle_tree_piece.specs.Item as h
-use Rattle.bundle_tree_piece.specs.Item.{Item, Head}
+use Rattle.bundle_syntax.specs.declared.piece.Role.TheVariants as r
+use Rattle.bundle_syntax.specs.Item as h
+use Rattle.bundle_syntax.specs.Item.{Item, Head}
 use Rattle.bundle_rules.specs.Places.{path_at}
 
 -- the list of `f(x);`

@@ -1,6 +1,6 @@
 -- Small programs, from which the examples are built: `main.js` has the number 0, `a.js`, `b.js` and `c.js` have 1, 2 and 3.
 use Rattle.std.specs.Prelude.{Bool, true, false, List, [], ◌∷◌, ◌++◌, codes}
-use Rattle.bundle_tree_piece.specs.Item.{Item}
+use Rattle.bundle_syntax.specs.Item.{Item}
 use Rattle.bundle_tree_names.specs.FileName.{Name, real}
 use Rattle.bundle_rules.specs.Nodes.{Text}
 use Rattle.bundle_rules.specs.Entries.{Settings}

@@ -1,8 +1,8 @@
 -- Static reads of a cleared tree, and its uses of `import.meta`: those of the tree, at the same places.
 use Rattle.std.proofs.Common.{◌≡◌, ℕ, zero, suc, ◌&&◌, ◌||◌, List, [], ◌∷◌, Option, Some, None, drop, slice_get, option_map, refl, ap, ◌∙◌}
 use Rattle.std.specs.Prelude.{if◌then◌else◌}
-use Rattle.bundle_tree_piece.specs.Item as h
-use Rattle.bundle_tree_piece.specs.Item.{Item, Head}
+use Rattle.bundle_syntax.specs.Item as h
+use Rattle.bundle_syntax.specs.Item.{Item, Head}
 use Rattle.bundle_rules.specs.Places.{Around, path_at}
 use Rattle.bundle_rules.specs.Nodes.{side_by_side, first_or_nothing, child, node_at}
 use Rattle.bundle_rules.specs.Entries.{is_import_meta}

@@ -1,9 +1,9 @@
 -- The marks of a tree and its occurrences say the same of its identifiers.
 use Rattle.std.specs.Prelude.{◌≡◌, true, false, List, [], ◌∷◌, map}
 use Rattle.std.proofs.Common.{refl, ap}
-use Rattle.bundle_tree_piece.specs.declared.piece.Role.TheVariants.{Binding, Reference, Word}
-use Rattle.bundle_tree_piece.specs.Item as h
-use Rattle.bundle_tree_piece.specs.Item.{Item}
+use Rattle.bundle_syntax.specs.declared.piece.Role.TheVariants.{Binding, Reference, Word}
+use Rattle.bundle_syntax.specs.Item as h
+use Rattle.bundle_syntax.specs.Item.{Item}
 use Rattle.bundle_rules.specs.Places.{Spot, start, past, occurrences_from, is_binding}
 use Rattle.bundle_rules.specs.Idents.{ident_of}
 use Rattle.bundle_rules.specs.Rebuilds.{marks_of, listed, listed_in}

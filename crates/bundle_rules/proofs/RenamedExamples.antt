@@ -3,10 +3,10 @@ use Rattle.std.proofs.Common.{◌≡◌, ℕ, zero, suc, Bool, true, false, List
 use Rattle.std.specs.Prelude.{codes, ◌↔◌, ◌==◌, ◌&&◌}
 use Rattle.std.proofs.lemmas.Bool.Decides.{nat_tests}
 use Rattle.std.proofs.lemmas.Option.{same_Some}
-use Rattle.bundle_tree_leaf.specs.declared.kind.VarDeclKind.TheVariants.{Const, Let}
-use Rattle.bundle_tree_piece.specs.declared.piece.Role.TheVariants.{Binding, Reference, Word}
-use Rattle.bundle_tree_piece.specs.Item as h
-use Rattle.bundle_tree_piece.specs.Item.{Item}
+use Rattle.bundle_syntax.specs.declared.kind.VarDeclKind.TheVariants.{Const, Let}
+use Rattle.bundle_syntax.specs.declared.piece.Role.TheVariants.{Binding, Reference, Word}
+use Rattle.bundle_syntax.specs.Item as h
+use Rattle.bundle_syntax.specs.Item.{Item}
 use Rattle.bundle_rules.specs.Places.{Occurrence, occurrence_at}
 use Rattle.bundle_rules.specs.Scopes.{Es, Scope, Top}
 use Rattle.bundle_rules.specs.Declarations.{BySymbol, ByContext, Name}

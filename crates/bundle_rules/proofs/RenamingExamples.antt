@@ -2,8 +2,8 @@
 use Rattle.std.specs.Prelude.{◌≡◌, ℕ, Bool as Truth, true, false, cond, List, [], ◌∷◌, ◌++◌, Some, codes}
 use mathlib.Core.Path.{refl}
 use Rattle.std.specs.Fmt.{digits}
-use Rattle.bundle_tree_leaf.specs.declared.kind.VarDeclKind.TheVariants as v
-use Rattle.bundle_tree_piece.specs.Item.{Item}
+use Rattle.bundle_syntax.specs.declared.kind.VarDeclKind.TheVariants as v
+use Rattle.bundle_syntax.specs.Item.{Item}
 use Rattle.bundle_rules.specs.Declarations.{contexts_agree}
 use Rattle.bundle_rules.specs.Homes.{is_parameters}
 use Rattle.bundle_rules.specs.Places.{occurrences}

@@ -1,9 +1,9 @@
 -- What the names of small modules denote, by their symbols.
 use Rattle.std.specs.Prelude.{◌≡◌, ℕ, false, List, [], ◌∷◌, ◌++◌, None, codes}
 use mathlib.Core.Path.{refl}
-use Rattle.bundle_tree_leaf.specs.declared.kind.VarDeclKind.TheVariants as v
-use Rattle.bundle_tree_piece.specs.Item as h
-use Rattle.bundle_tree_piece.specs.Item.{Item}
+use Rattle.bundle_syntax.specs.declared.kind.VarDeclKind.TheVariants as v
+use Rattle.bundle_syntax.specs.Item as h
+use Rattle.bundle_syntax.specs.Item.{Item}
 use Rattle.bundle_rules.specs.Scopes.{Es, Cjs, ScopeKind, Parameters, ArrowParameters, FunctionBody, StaticBody, Block, CatchBlock, Loop, Catch, FunctionName, ClassName, Top, Wrapper, Inner}
 use Rattle.bundle_rules.specs.Declarations.{BySymbol, Name}
 use Rattle.bundle_rules.specs.Denotes.{Denoted, Bound, Global, denotations}

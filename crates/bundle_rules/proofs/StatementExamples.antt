@@ -1,9 +1,9 @@
 -- Examples of own statements.
 use Rattle.std.specs.Prelude.{◌≡◌, false, [], ◌∷◌, ◌++◌, codes, refl}
-use Rattle.bundle_tree_piece.specs.declared.piece.Role.TheVariants.{Binding}
-use Rattle.bundle_tree_piece.specs.Item as h
+use Rattle.bundle_syntax.specs.declared.piece.Role.TheVariants.{Binding}
+use Rattle.bundle_syntax.specs.Item as h
 use Rattle.bundle_rules.specs.Statements.{taken, written, own_statements, taken_from, no_notes, default_name}
-use Rattle.bundle_tree_leaf.specs.declared.kind.VarDeclKind.TheVariants.{Const}
+use Rattle.bundle_syntax.specs.declared.kind.VarDeclKind.TheVariants.{Const}
 use Rattle.bundle_rules.proofs.Trees.{node, module_of, number, declares, exports_const, imports, exports_all, exports_default, exports_default_function, calls}
 
 -- `import { x } from './a'; export * from './b'; ; f(1);` states the call alone

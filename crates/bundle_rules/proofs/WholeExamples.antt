@@ -3,7 +3,7 @@ use Rattle.std.proofs.Common.{◌≡◌, ℕ, Bool, zero, suc, ◌<◌, true, fa
 use Rattle.std.specs.Prelude.{codes, Contains, slice_get, map, ◌==◌, ◌≢◌, cond}
 use Rattle.std.proofs.lemmas.Option.{same_Some}
 use Rattle.std.proofs.lemmas.Bool.Decides.{nat_tests}
-use Rattle.bundle_tree_piece.specs.Item.{Item}
+use Rattle.bundle_syntax.specs.Item.{Item}
 use Rattle.bundle_tree_names.specs.FileName.{Name as FileName}
 use Rattle.bundle_rules.specs.Places.{Occurrence, occurrence_at, occurrences, is_binding}
 use Rattle.bundle_rules.specs.Scopes.{Es}

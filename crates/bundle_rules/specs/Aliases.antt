@@ -1,10 +1,10 @@
 -- Aliases: `a` is an alias of `b` where the linker wrote `const a = b;`. The end of a chain of them is what is none itself.
 use Rattle.std.specs.Prelude.{◌≡◌, ℕ, IsTrue, List, [], ◌∷◌, Contains}
-use Rattle.bundle_tree_leaf.specs.declared.kind.ExportMetadata.{ExportMetadata}
-use Rattle.bundle_tree_leaf.specs.declared.kind.VarDeclKind.TheVariants.{Const}
-use Rattle.bundle_tree_piece.specs.declared.piece.Role.TheVariants.{Binding, Reference}
-use Rattle.bundle_tree_piece.specs.Item as h
-use Rattle.bundle_tree_piece.specs.Item.{Item}
+use Rattle.bundle_syntax.specs.declared.kind.ExportMetadata.{ExportMetadata}
+use Rattle.bundle_syntax.specs.declared.kind.VarDeclKind.TheVariants.{Const}
+use Rattle.bundle_syntax.specs.declared.piece.Role.TheVariants.{Binding, Reference}
+use Rattle.bundle_syntax.specs.Item as h
+use Rattle.bundle_syntax.specs.Item.{Item}
 use Rattle.bundle_rules.specs.Idents.{Ident}
 use Rattle.bundle_rules.specs.Renamed.{IsRenamedBy}
 use Rattle.bundle_rules.specs.Parts.{Owned, Parts, in_order, HoldsOfParts}

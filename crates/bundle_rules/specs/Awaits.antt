@@ -2,8 +2,8 @@
 -- of a module is async). Functions are meant with their parameters and without their keys; static blocks and values of
 -- fields are no functions.
 use Rattle.std.specs.Prelude.{ℕ, suc, ◌&&◌, ◌||◌, Bool, true, false, not, List, [], ◌∷◌}
-use Rattle.bundle_tree_piece.specs.Item as h
-use Rattle.bundle_tree_piece.specs.Item.{Item, Head}
+use Rattle.bundle_syntax.specs.Item as h
+use Rattle.bundle_syntax.specs.Item.{Item, Head}
 use Rattle.bundle_rules.specs.Places.{path_at}
 use Rattle.bundle_rules.specs.Deferred.{is_in_function}
 

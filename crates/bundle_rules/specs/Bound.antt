@@ -2,7 +2,7 @@
 -- The module is read as ES code here: its kind in a bundle does not matter to what it asks for.
 use Rattle.std.specs.Prelude.{ℕ, Bool, true, false, ◌&&◌, List, Option, Some, bytes_eq, map}
 use Rattle.std.specs.List.{list_any}
-use Rattle.bundle_tree_piece.specs.Item.{Item}
+use Rattle.bundle_syntax.specs.Item.{Item}
 use Rattle.bundle_rules.specs.Places.{occurrences}
 use Rattle.bundle_rules.specs.Scopes.{Es}
 use Rattle.bundle_rules.specs.Declarations.{BySymbol}

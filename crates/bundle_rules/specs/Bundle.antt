@@ -6,8 +6,8 @@ use Rattle.std.specs.List.{AllZip}
 use Rattle.std.specs.Cmp.Lexicographic.{slice_cmp}
 use Rattle.std.specs.Ordering.{nat_cmp}
 use Rattle.std.specs.declared.cmp.Ordering.TheVariants.{Less}
-use Rattle.bundle_tree_piece.specs.Item as h
-use Rattle.bundle_tree_piece.specs.Item.{Item, Head}
+use Rattle.bundle_syntax.specs.Item as h
+use Rattle.bundle_syntax.specs.Item.{Item, Head}
 use Rattle.bundle_rules.specs.Scopes.{Es, Scope, Top, Inner as InnerScope, FunctionBody}
 use Rattle.bundle_rules.specs.Doubled.{first_doubled}
 use Rattle.bundle_rules.specs.Declarations.{Reading, BySymbol}
@@ -51,9 +51,9 @@ form_of settings = if settings.iife then AsCall else AsModule
 
 -- a reached module asks for the external
 pub record IsUsed (p : Program) (s : Text) : Type 0 where
-  pub «module» : ℕ
-  pub reached : IsReached p «module»
-  pub asks : Contains (declared_requests (tree_of p «module»)) s
+  pub which : ℕ
+  pub reached : IsReached p which
+  pub asks : Contains (declared_requests (tree_of p which)) s
   pub external : IsTrue (is_external p s)
 
 -- a module imports or re-exports from a CommonJS module

@@ -1,8 +1,8 @@
 -- A tree without what a linker marks it with: contexts, which are then 0, and notes. A tree that is handed in is kept so.
 use Rattle.std.specs.Prelude.{List, [], ◌∷◌}
-use Rattle.bundle_tree_piece.specs.declared.piece.Role.TheVariants.{Word as IsWord}
-use Rattle.bundle_tree_piece.specs.Item as h
-use Rattle.bundle_tree_piece.specs.Item.{Item, Head}
+use Rattle.bundle_syntax.specs.declared.piece.Role.TheVariants.{Word as IsWord}
+use Rattle.bundle_syntax.specs.Item as h
+use Rattle.bundle_syntax.specs.Item.{Item, Head}
 use Rattle.bundle_rules.specs.Statements.{no_notes}
 
 -- a head with nothing noted

@@ -2,7 +2,7 @@
 -- what nothing binds; and numbers of its own for all else (own: contexts are a linker's marks on identifiers).
 use Rattle.std.specs.Prelude.{ℕ, ◌+◌, ◌==◌, ◌≤◌, ◌&&◌, ◌||◌, Bool as Truth, nat_le, nat_lt, IsTrue, List}
 use Rattle.std.specs.List.{AllZip}
-use Rattle.bundle_tree_piece.specs.Item.{Item}
+use Rattle.bundle_syntax.specs.Item.{Item}
 use Rattle.bundle_rules.specs.Places.{Occurrence, occurrences}
 use Rattle.bundle_rules.specs.Scopes.{ModuleKind, Top, Wrapper, Inner}
 use Rattle.bundle_rules.specs.Declarations.{BySymbol}

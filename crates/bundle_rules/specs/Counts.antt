@@ -1,9 +1,9 @@
 -- How many scopes and bindings a tree has (ECMA-262, 8.2 and 9.1). A resolver takes a context for each of them at most.
 use Rattle.std.specs.Prelude.{ℕ, ◌+◌, Bool as Truth, true, false, cond, not, ◌&&◌, List, [], ◌∷◌, length, filter}
 use Rattle.std.specs.List.{list_any}
-use Rattle.bundle_tree_leaf.specs.declared.kind.VarDeclKind.TheVariants as v
-use Rattle.bundle_tree_piece.specs.Item as h
-use Rattle.bundle_tree_piece.specs.Item.{Item, Head}
+use Rattle.bundle_syntax.specs.declared.kind.VarDeclKind.TheVariants as v
+use Rattle.bundle_syntax.specs.Item as h
+use Rattle.bundle_syntax.specs.Item.{Item, Head}
 use Rattle.bundle_rules.specs.Places.{Around, Spot, past, start}
 use Rattle.bundle_rules.specs.Scopes.{ModuleKind, Inner, Parameters, outermost, is_default}
 use Rattle.bundle_rules.specs.Declarations.{BySymbol, is_loop_head, Declared, declared}

@@ -2,10 +2,10 @@
 -- patterns, 14.7 loops, 14.15 catch, 15 functions and classes, 16.2.2 imports, 16.2.3 default exports).
 use Rattle.std.specs.Prelude.{ℕ, Bool as Truth, true, false, cond, ◌&&◌, ◌==◌, List, [], ◌∷◌, ◌++◌, Option, Some, None, codes, bytes_eq, option_and_then}
 use Rattle.std.specs.List.{cons_option}
-use Rattle.bundle_tree_leaf.specs.declared.kind.VarDeclKind.{VarDeclKind}
-use Rattle.bundle_tree_leaf.specs.declared.kind.VarDeclKind.TheVariants as v
-use Rattle.bundle_tree_piece.specs.Item as h
-use Rattle.bundle_tree_piece.specs.Item.{Item, Head}
+use Rattle.bundle_syntax.specs.declared.kind.VarDeclKind.{VarDeclKind}
+use Rattle.bundle_syntax.specs.declared.kind.VarDeclKind.TheVariants as v
+use Rattle.bundle_syntax.specs.Item as h
+use Rattle.bundle_syntax.specs.Item.{Item, Head}
 use Rattle.bundle_rules.specs.Places.{Around, Spot, past, start, Occurrence, occurrence_of, is_binding}
 use Rattle.bundle_rules.specs.Scopes.{ModuleKind, Es, Cjs, Scope, Wrapper, scopes_around, outermost, is_default}
 

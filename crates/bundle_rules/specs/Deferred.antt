@@ -3,8 +3,8 @@
 -- static fields and static blocks.
 use Rattle.std.specs.Prelude.{ℕ, Bool as Truth, false, ◌||◌, ◌==◌, List}
 use Rattle.std.specs.List.{list_any}
-use Rattle.bundle_tree_piece.specs.Item as h
-use Rattle.bundle_tree_piece.specs.Item.{Head}
+use Rattle.bundle_syntax.specs.Item as h
+use Rattle.bundle_syntax.specs.Item.{Head}
 use Rattle.bundle_rules.specs.Places.{Around}
 use Rattle.bundle_rules.specs.Scopes.{Es, scopes_around}
 use Rattle.bundle_rules.specs.Homes.{is_parameters}

@@ -3,7 +3,7 @@
 -- as when the code runs. By symbol and context: as in a tree whose contexts tell its bindings apart.
 use Rattle.std.specs.Prelude.{◌≡◌, ◌↔◌, ℕ, Bool as Truth, false, cond, not, ◌&&◌, ◌||◌, ◌==◌, List, Option, Some, None, is_some, codes, find, map, option_map, length, slice_get}
 use Rattle.std.specs.List.{list_any}
-use Rattle.bundle_tree_piece.specs.Item.{Item}
+use Rattle.bundle_syntax.specs.Item.{Item}
 use Rattle.bundle_rules.specs.Places.{Occurrence, occurrence_at, occurrences}
 use Rattle.bundle_rules.specs.Scopes.{ModuleKind, Es, Scope, scopes_around}
 use Rattle.bundle_rules.specs.Declarations.{Reading, BySymbol, ByContext, Name, name_of, Declared, declared, declaration_of}

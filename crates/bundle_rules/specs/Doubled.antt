@@ -4,7 +4,7 @@
 -- is one binding and no fault.
 use Rattle.std.specs.Prelude.{Bool as Truth, true, false, not, ◌&&◌, ◌||◌, ◌==◌, nat_lt, List, ◌∷◌, Option, find, take_while}
 use Rattle.std.specs.List.{list_any}
-use Rattle.bundle_tree_piece.specs.Item.{Item}
+use Rattle.bundle_syntax.specs.Item.{Item}
 use Rattle.bundle_rules.specs.Scopes.{ModuleKind, Scope, Wrapper, Top, Inner, FunctionBody, StaticBody, same_scope}
 use Rattle.bundle_rules.specs.Declarations.{Way, ByImport, ByVar, ByLet, ByConst, ByFunction, ByClass, ByDefault, ByLoop, BySymbol, names_agree, Declared, declared}
 use Rattle.bundle_rules.specs.Homes.{takes, taker, from_taker, group_of}

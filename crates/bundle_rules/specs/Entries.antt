@@ -4,12 +4,12 @@
 -- string "x" are one name. Beside these stand the literal calls of `require`.
 use Rattle.std.specs.Prelude.{ℕ, zero, suc, ◌==◌, ◌&&◌, Bool, true, false, not, List, [], ◌∷◌, ◌++◌, Option, Some, None, filter, map, flat_map, find, bytes_eq, codes, unwrap_or, if◌then◌else◌}
 use Rattle.std.specs.List.{list_any}
-use Rattle.bundle_tree_leaf.specs.declared.kind.MetaPropKind.{MetaPropKind}
-use Rattle.bundle_tree_leaf.specs.declared.kind.MetaPropKind.TheVariants.{NewTarget, ImportMeta}
-use Rattle.bundle_tree_piece.specs.declared.piece.Role.{Role}
-use Rattle.bundle_tree_piece.specs.declared.piece.Role.TheVariants.{Binding}
-use Rattle.bundle_tree_piece.specs.Item as h
-use Rattle.bundle_tree_piece.specs.Item.{Item, Head}
+use Rattle.bundle_syntax.specs.declared.kind.MetaPropKind.{MetaPropKind}
+use Rattle.bundle_syntax.specs.declared.kind.MetaPropKind.TheVariants.{NewTarget, ImportMeta}
+use Rattle.bundle_syntax.specs.declared.piece.Role.{Role}
+use Rattle.bundle_syntax.specs.declared.piece.Role.TheVariants.{Binding}
+use Rattle.bundle_syntax.specs.Item as h
+use Rattle.bundle_syntax.specs.Item.{Item, Head}
 use Rattle.bundle_rules.specs.Nodes.{Text, has_text, each_once, in_field, child, string_of, name_of, begins_with, has_head}
 pub use Rattle.bundle_rules.specs.Nodes.{is_end}
 use Rattle.bundle_rules.specs.Statements.{top_items, default_name}

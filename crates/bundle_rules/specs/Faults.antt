@@ -1,8 +1,8 @@
 -- What is wrong with a list of entries, one clause for each refusal, and in which order it is judged (ECMA-262, 16.2.1.1
 -- early errors of modules; 16.2.1.6.4 InitializeEnvironment, which refuses imports that ResolveExport does not resolve).
 use Rattle.std.specs.Prelude.{◌≡◌, ◌≢◌, ℕ, ◌+◌, ◌*◌, ◌<◌, ◌≤◌, ◌==◌, ◌⊎◌, Bool, true, false, IsTrue, List, [], ◌∷◌, ◌++◌, Option, Some, None, Contains, length, flat_map, slice_get, string_bytes, codes, filter}
-use Rattle.bundle_tree_piece.specs.Item as h
-use Rattle.bundle_tree_piece.specs.Item.{Item, Head}
+use Rattle.bundle_syntax.specs.Item as h
+use Rattle.bundle_syntax.specs.Item.{Item, Head}
 use Rattle.bundle_rules.specs.Scopes.{ModuleKind, Es}
 use Rattle.bundle_rules.specs.Doubled.{first_doubled}
 use Rattle.bundle_rules.specs.Declarations.{Declared as Declaration}

@@ -2,7 +2,7 @@
 -- cites them.
 use Rattle.std.specs.Prelude.{◌≡◌, ◌≢◌, ℕ, ◌<◌, ◌⊎◌, flat_map, true, List, [], ◌∷◌, ◌++◌, Some, None, slice_get, map, if◌then◌else◌}
 use Rattle.std.specs.List.{AllZip}
-use Rattle.bundle_tree_piece.specs.Item.{Item}
+use Rattle.bundle_syntax.specs.Item.{Item}
 use Rattle.bundle_rules.specs.Scopes.{Es}
 use Rattle.bundle_rules.specs.Declarations.{Reading, BySymbol, ByContext}
 use Rattle.bundle_rules.specs.Doubled.{first_doubled}

@@ -5,7 +5,7 @@
 -- A declaration that stands as the body of an `if`, a loop or a label belongs to the block around it.
 use Rattle.std.specs.Prelude.{Bool as Truth, true, false, cond, not, ◌&&◌, ◌||◌, ℕ, List, [], ◌∷◌, Option, Some, None, codes, bytes_eq, filter, unwrap_or}
 use Rattle.std.specs.List.{list_any}
-use Rattle.bundle_tree_piece.specs.Item.{Item}
+use Rattle.bundle_syntax.specs.Item.{Item}
 use Rattle.bundle_rules.specs.Scopes.{ModuleKind, Scope, Wrapper, Top, Inner, Parameters, ArrowParameters, FunctionBody, StaticBody, Block, CatchBlock, Loop, Catch, FunctionName, ClassName, same_scope}
 use Rattle.bundle_rules.specs.Declarations.{Way, ByImport, ByVar, ByLet, ByConst, ByFunction, ByClass, ByDefault, ByParameter, ByCatch, ByLoop, ByFunctionName, ByClassName, ByWrapper, Reading, Name, names_agree, Declared, declared}
 

@@ -1,6 +1,6 @@
 -- Identifiers: symbols with contexts, as they stand at the occurrences of a tree (ECMA-262, 13.1).
 use Rattle.std.specs.Prelude.{ℕ, List, map}
-use Rattle.bundle_tree_piece.specs.Item.{Item}
+use Rattle.bundle_syntax.specs.Item.{Item}
 use Rattle.bundle_rules.specs.Places.{Occurrence, occurrences}
 use Rattle.bundle_rules.specs.Nodes.{Text}
 

@@ -1,7 +1,7 @@
 -- In which order one call judges its list of entries, what it asks of the loader and the resolver on the way, and
 -- what is kept afterwards (ECMA-262, 16.2.1.5 Link and 16.2.1.7 HostResolveImportedModule; the order is this linker's own).
 use Rattle.std.specs.Prelude.{◌≡◌, ℕ, suc, ◌<◌, ◌≤◌, ◌⊎◌, IsTrue, List, [], ◌∷◌, ◌++◌, Option, Some, None, Contains, length, map, slice_get}
-use Rattle.bundle_tree_piece.specs.Item.{Item}
+use Rattle.bundle_syntax.specs.Item.{Item}
 use Rattle.bundle_tree_names.specs.FileName.{Name}
 use Rattle.bundle_rules.specs.Nodes.{Text}
 use Rattle.bundle_rules.specs.Entries.{Settings, requests_of, has_import_meta}

@@ -2,7 +2,7 @@
 -- future reserved words of earlier editions), and what a binding with such a symbol is called.
 use Rattle.std.specs.Prelude.{◌≡◌, ℕ, Bool as Truth, cond, not, ◌&&◌, ◌==◌, nat_le, IsTrue, List, [], ◌∷◌, ◌++◌, codes, bytes_eq, map}
 use Rattle.std.specs.List.{list_any, AllZip}
-use Rattle.bundle_tree_piece.specs.Item.{Item}
+use Rattle.bundle_syntax.specs.Item.{Item}
 use Rattle.bundle_rules.specs.Places.{Occurrence, occurrences}
 use Rattle.bundle_rules.specs.Scopes.{Es}
 use Rattle.bundle_rules.specs.Declarations.{ByContext, Declared, declared}

@@ -65,7 +65,7 @@ imports p m = imports_of (tree_of p m)
 
 -- a name bound by `import * as`, with the module that exports it as a local name
 pub record Origin : Type 0 where
-  pub «module» : ℕ
+  pub which : ℕ
   pub local : Text
 
 -- `Gives p m x t origin`: by its exports m gives the target t for the name x. The least such relation: a cycle of entries gives nothing by itself
@@ -80,7 +80,7 @@ pub data Gives (p : Program) : ℕ → Text → Target → Option Origin → Typ
       Contains (exports p m) (Local x y) →
       import_of (imports p m) y ≡ Some entry →
       Takes p m entry.specifier entry.taken t →
-      Gives p m x t (Some (record { «module» = m; local = y }))
+      Gives p m x t (Some (record { which = m; local = y }))
   -- an indirect entry of an external, a CommonJS module or a whole namespace gives just that
   taken : {m : ℕ} {x s : Text} {what : Taken} {t : Target} →
       Contains (exports p m) (Indirect x s what) →

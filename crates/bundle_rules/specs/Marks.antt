@@ -1,8 +1,8 @@
 -- A tree as marks, in which something else stands in the place of each name, and shorthands are spelled out (ECMA-262,
 -- 13.2.5 and B.3.1 for object literals, 14.3.3 for patterns). Contexts and notes are left out.
 use Rattle.std.specs.Prelude.{ℕ, ◌+◌, ◌==◌, ◌&&◌, Bool, List, [], ◌∷◌, ◌++◌, None, slice_get, bytes_eq, codes, if◌then◌else◌}
-use Rattle.bundle_tree_piece.specs.Item as h
-use Rattle.bundle_tree_piece.specs.Item.{Item, Head}
+use Rattle.bundle_syntax.specs.Item as h
+use Rattle.bundle_syntax.specs.Item.{Item, Head}
 use Rattle.bundle_rules.specs.Places.{Around}
 use Rattle.bundle_rules.specs.Nodes.{Text}
 use Rattle.bundle_rules.specs.Shorthands.{has_default, is_shorthand_in_pattern, is_object, symbol_of}

@@ -2,10 +2,10 @@
 -- ResolveBinding; 16.2.1.6.4, by which an imported name is the binding of another module; 10.4.6 for reads of a
 -- namespace). Contexts and notes are left out, and shorthands are spelled out (13.2.5, 14.3.3).
 use Rattle.std.specs.Prelude.{◌≡◌, ℕ, zero, suc, nat_le, Bool, true, false, List, [], ◌∷◌, ◌++◌, Option, Some, None, Contains, filter, filter_map, position, slice_get}
-use Rattle.bundle_tree_piece.specs.declared.piece.Role.{Role}
-use Rattle.bundle_tree_piece.specs.declared.piece.Role.TheVariants.{Word as IsWord}
-use Rattle.bundle_tree_piece.specs.Item as h
-use Rattle.bundle_tree_piece.specs.Item.{Item, Head}
+use Rattle.bundle_syntax.specs.declared.piece.Role.{Role}
+use Rattle.bundle_syntax.specs.declared.piece.Role.TheVariants.{Word as IsWord}
+use Rattle.bundle_syntax.specs.Item as h
+use Rattle.bundle_syntax.specs.Item.{Item, Head}
 use Rattle.bundle_rules.specs.Places.{Around, path_at}
 use Rattle.bundle_rules.specs.Scopes.{ModuleKind, Es, Cjs, Scope, Inner as InnerScope, Top, Wrapper}
 use Rattle.bundle_rules.specs.Declarations.{Reading, BySymbol, Name as Known_as}

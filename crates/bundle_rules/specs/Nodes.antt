@@ -1,8 +1,8 @@
 -- The nodes of a tree's list: which lie directly in a node, in which field, and the texts that stand there.
 use Rattle.std.specs.Prelude.{◌≡◌, ℕ, zero, suc, Bool, true, false, not, List, [], ◌∷◌, ◌++◌, Option, Some, None, ◌==◌, filter, flat_map, bytes_eq, drop}
 use Rattle.std.specs.List.{list_any}
-use Rattle.bundle_tree_piece.specs.Item as h
-use Rattle.bundle_tree_piece.specs.Item.{Item, Head}
+use Rattle.bundle_syntax.specs.Item as h
+use Rattle.bundle_syntax.specs.Item.{Item, Head}
 
 -- a text, as its bytes
 abbrev pub Text : Type 0

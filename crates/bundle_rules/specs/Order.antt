@@ -3,8 +3,8 @@
 -- order; 15.2 to 15.7: the body of a function runs when it is called, an instance field with its object).
 use Rattle.std.specs.Prelude.{◌≡◌, ◌≢◌, ℕ, ◌+◌, ◌<◌, ◌≤◌, ◌==◌, ◌&&◌, ◌||◌, ◌⊎◌, ◌↔◌, nat_eq, Bool, true, false, not, List, [], ◌∷◌, Option, Some, None, Contains, length, slice_get, bytes_eq, codes, map, flat_map, filter, filter_map, position, option_and_then}
 use Rattle.std.specs.List.{IsDistinct}
-use Rattle.bundle_tree_piece.specs.Item as h
-use Rattle.bundle_tree_piece.specs.Item.{Item, Head}
+use Rattle.bundle_syntax.specs.Item as h
+use Rattle.bundle_syntax.specs.Item.{Item, Head}
 use Rattle.bundle_rules.specs.Places.{Around, Occurrence, occurrence_at, occurrences, is_binding}
 use Rattle.bundle_rules.specs.Scopes.{Es, Scope, same_scope}
 use Rattle.bundle_rules.specs.Declarations.{Reading, BySymbol, ByContext}
@@ -243,13 +243,13 @@ pub data SetsUpBy (g : Group) (m d t b : ℕ) : Type 0 where
 
 -- item t sets up b: it is a later item of the module that declares b first, and does so in one of three ways
 pub record SetsUp (g : Group) (t : ℕ) (b : ℕ) : Type 0 where
-  pub «module» : ℕ
+  pub which : ℕ
   pub first : ℕ
   pub declares : DeclaresFirst g first b
-  pub its : IsOf g first «module»
-  pub same : IsOf g t «module»
+  pub its : IsOf g first which
+  pub same : IsOf g t which
   pub later : first < t
-  pub by : SetsUpBy g «module» first t b
+  pub by : SetsUpBy g which first t b
 
 -- item t declares b or sets it up
 abbrev pub Provides : Group → ℕ → ℕ → Type 0

@@ -2,8 +2,8 @@
 -- stands behind. Each part holds pairs of a module and an item, by modules as these first came into it.
 use Rattle.std.specs.Prelude.{◌≡◌, ℕ, nat_eq, Bool, true, false, List, [], ◌∷◌, ◌++◌, map, flat_map, filter, if◌then◌else◌}
 use Rattle.std.specs.List.{AllZip}
-use Rattle.bundle_tree_piece.specs.Item as h
-use Rattle.bundle_tree_piece.specs.Item.{Item}
+use Rattle.bundle_syntax.specs.Item as h
+use Rattle.bundle_syntax.specs.Item.{Item}
 use Rattle.bundle_rules.specs.Nodes.{numbers_once}
 
 -- an item with its module

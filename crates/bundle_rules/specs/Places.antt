@@ -3,10 +3,10 @@
 -- module or of a list of a module's items.
 use Rattle.std.specs.Prelude.{ℕ, ◌+◌, Bool as Truth, true, false, List, [], ◌∷◌, Option, Some, None, take, fold, slice_get, option_and_then}
 use Rattle.std.specs.List.{cons_option}
-use Rattle.bundle_tree_piece.specs.declared.piece.Role.{Role}
-use Rattle.bundle_tree_piece.specs.declared.piece.Role.TheVariants as r
-use Rattle.bundle_tree_piece.specs.Item as h
-use Rattle.bundle_tree_piece.specs.Item.{Item, Head}
+use Rattle.bundle_syntax.specs.declared.piece.Role.{Role}
+use Rattle.bundle_syntax.specs.declared.piece.Role.TheVariants as r
+use Rattle.bundle_syntax.specs.Item as h
+use Rattle.bundle_syntax.specs.Item.{Item, Head}
 
 -- a node that is open at a place: its head, the position where it begins, and in which of its fields the place lies
 pub record Around : Type 0 where

@@ -1,7 +1,7 @@
 -- What a bundle is made of: modules by their numbers, which file each is and where its specifiers lead; and the graph of
 -- their requests (ECMA-262, 16.2.1.5). Numbers may have gaps, and two of them may be one file.
 use Rattle.std.specs.Prelude.{ℕ, Bool, List, [], ◌∷◌, Option, None, Contains, filter_map, option_map, unwrap_or, if◌then◌else◌}
-use Rattle.bundle_tree_piece.specs.Item.{Item}
+use Rattle.bundle_syntax.specs.Item.{Item}
 use Rattle.bundle_tree_names.specs.FileName.{Name}
 use Rattle.bundle_order_graph.specs.Walks.{Reaches}
 use Rattle.bundle_order_graph.specs.Order.{Lists}

@@ -1,8 +1,8 @@
 -- Reads of members: where `p.x` is read, and neither written to nor optional (ECMA-262, 13.3.2, 13.3.9, 13.5.1, 13.15.2).
 use Rattle.std.specs.Prelude.{ℕ, ◌==◌, ◌&&◌, ◌||◌, Bool, true, false, List, [], ◌∷◌, Option, Some, None, if◌then◌else◌}
-use Rattle.bundle_tree_leaf.specs.declared.operator.UnaryOp.TheVariants.{Delete}
-use Rattle.bundle_tree_piece.specs.Item as h
-use Rattle.bundle_tree_piece.specs.Item.{Item, Head}
+use Rattle.bundle_syntax.specs.declared.operator.UnaryOp.TheVariants.{Delete}
+use Rattle.bundle_syntax.specs.Item as h
+use Rattle.bundle_syntax.specs.Item.{Item, Head}
 use Rattle.bundle_rules.specs.Places.{Around, path_at}
 use Rattle.bundle_rules.specs.Nodes.{Text, child, begins_with, node_at}
 

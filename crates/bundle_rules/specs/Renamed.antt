@@ -3,7 +3,7 @@
 -- identifiers: what is spelled out is so where a symbol changes, and nowhere else.
 use Rattle.std.specs.Prelude.{◌≡◌, ℕ, ◌+◌, ◌<◌, IsTrue, is_some, List, None, Contains}
 use Rattle.std.specs.List.{AllZip}
-use Rattle.bundle_tree_piece.specs.Item.{Item}
+use Rattle.bundle_syntax.specs.Item.{Item}
 use Rattle.bundle_rules.specs.Scopes.{ModuleKind, Es}
 use Rattle.bundle_rules.specs.Declarations.{BySymbol, ByContext, Declared, declared}
 use Rattle.bundle_rules.specs.Denotes.{DenoteAlike, IsResolutionOf}

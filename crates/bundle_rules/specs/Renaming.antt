@@ -4,7 +4,7 @@
 -- of their scopes' nodes, an outer scope before those inside, and in a scope by their first identifier.
 use Rattle.std.specs.Prelude.{◌≡◌, ℕ, zero, suc, Bool as Truth, true, false, cond, not, ◌&&◌, ◌||◌, ◌==◌, nat_lt, List, ◌++◌, IsTrue, is_some, bytes_eq, find, map, option_map, unwrap_or, decimal}
 use Rattle.std.specs.List.{list_any, list_all}
-use Rattle.bundle_tree_piece.specs.Item.{Item}
+use Rattle.bundle_syntax.specs.Item.{Item}
 use Rattle.bundle_rules.specs.Places.{Occurrence, occurrences}
 use Rattle.bundle_rules.specs.Scopes.{Es, Scope, scope_order, same_scope, scopes_around}
 use Rattle.bundle_rules.specs.Declarations.{ByContext, Name, Declared, declared}

@@ -3,8 +3,8 @@
 -- declares a name there or not; a loop whose head declares nothing, or a function without a name of its own, binds
 -- nothing in it.
 use Rattle.std.specs.Prelude.{ℕ, ◌+◌, Bool as Truth, true, false, cond, ◌==◌, List, [], ◌∷◌, ◌++◌, Option, Some, None}
-use Rattle.bundle_tree_piece.specs.Item as h
-use Rattle.bundle_tree_piece.specs.Item.{Head}
+use Rattle.bundle_syntax.specs.Item as h
+use Rattle.bundle_syntax.specs.Item.{Head}
 use Rattle.bundle_rules.specs.Places.{Around}
 
 -- what a tree is read as: the code of an ECMAScript module, or that of `function (module, exports) { .. }`

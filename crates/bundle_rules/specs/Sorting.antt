@@ -2,8 +2,8 @@
 -- whole list of items by module (own).
 use Rattle.std.specs.Prelude.{◌≡◌, ℕ, ◌+◌, ◌<◌, ◌↔◌, nat_le, nat_lt, ◌&&◌, not, Bool, false, List, [], ◌∷◌, ◌++◌, Option, Some, None, Contains, length, map, filter, slice_get, option_map, if◌then◌else◌}
 use Rattle.std.specs.List.{AllZip}
-use Rattle.bundle_tree_piece.specs.Item as h
-use Rattle.bundle_tree_piece.specs.Item.{Item, Head}
+use Rattle.bundle_syntax.specs.Item as h
+use Rattle.bundle_syntax.specs.Item.{Item, Head}
 use Rattle.bundle_rules.specs.Scopes.{Top}
 use Rattle.bundle_rules.specs.Declarations.{ByContext}
 use Rattle.bundle_order_graph.specs.Modules.{Modules, Requests as Edges}

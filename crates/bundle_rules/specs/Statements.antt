@@ -2,11 +2,11 @@
 -- default` declares). Imports and export lists state nothing by themselves; an exported declaration is that
 -- declaration, and a default that has no name declares the name `default`.
 use Rattle.std.specs.Prelude.{ℕ, suc, ◌+◌, false, List, [], ◌∷◌, ◌++◌, None, length, flat_map, codes}
-use Rattle.bundle_tree_leaf.specs.declared.kind.ExportMetadata.{ExportMetadata}
-use Rattle.bundle_tree_leaf.specs.declared.kind.VarDeclKind.TheVariants.{Const}
-use Rattle.bundle_tree_piece.specs.declared.piece.Role.TheVariants.{Binding}
-use Rattle.bundle_tree_piece.specs.Item as h
-use Rattle.bundle_tree_piece.specs.Item.{Item, Head}
+use Rattle.bundle_syntax.specs.declared.kind.ExportMetadata.{ExportMetadata}
+use Rattle.bundle_syntax.specs.declared.kind.VarDeclKind.TheVariants.{Const}
+use Rattle.bundle_syntax.specs.declared.piece.Role.TheVariants.{Binding}
+use Rattle.bundle_syntax.specs.Item as h
+use Rattle.bundle_syntax.specs.Item.{Item, Head}
 use Rattle.bundle_rules.specs.Nodes.{parts, inside}
 
 -- a node, with the place in the module's list at which it begins

@@ -4,7 +4,7 @@ use Rattle.std.specs.Prelude.{◌≡◌, ℕ, ◌==◌, ◌&&◌, Bool, true, fa
 use Rattle.bundle_rules.specs.Denotes.{Denoted, Bound, Global}
 use Rattle.bundle_rules.specs.Scopes.{Scope, Es, Cjs}
 use Rattle.bundle_rules.specs.Declarations.{Name, BySymbol}
-use Rattle.bundle_tree_piece.specs.Item.{Item}
+use Rattle.bundle_syntax.specs.Item.{Item}
 use Rattle.bundle_rules.specs.Nodes.{Text, side_by_side}
 use Rattle.bundle_rules.specs.Statements.{TopItem, Element, taken_from, placed, own_statements}
 use Rattle.bundle_rules.specs.Bundle.{Hooks, Labelled, sense_of, elements_of, ItemMeans, IsLoadFunction, MayHold, properties_tree, PropertiesMean, Pairing, StandsFor, Own, Defines, Helps, HoldsMeta}

@@ -2,7 +2,7 @@
 -- 16.2.1.6.3 ResolveExport).
 use Rattle.std.specs.Prelude.{◌≡◌, ◌≢◌, ℕ, ◌⊎◌, ◌↔◌, not, flat_map, Bool, true, false, IsTrue, List, [], ◌∷◌, Option, Some, None, Contains, filter}
 use Rattle.std.specs.List.Sorted.{IsStrictlyIncreasing}
-use Rattle.bundle_tree_piece.specs.Item.{Item}
+use Rattle.bundle_syntax.specs.Item.{Item}
 use Rattle.bundle_tree_names.specs.FileName.{Name as FileName}
 use Rattle.bundle_order_graph.specs.Modules.{Modules, Requests as Edges}
 use Rattle.bundle_order_graph.specs.Walks.{Reaches}

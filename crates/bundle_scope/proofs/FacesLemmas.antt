@@ -1,7 +1,7 @@
 -- The same identifiers in other contexts.
 use Rattle.std.proofs.Common.{◌≡◌, ◌⊎◌, ℕ, Some, subst, false, not, List, [], ◌∷◌, length, map, bytes_eq, inl, inr, arith, refl, ap, sym, ◌∙◌}
 use Rattle.std.proofs.lemmas.Slice.Eq.{bytes_eq-Decides}
-use Rattle.bundle_tree_piece.specs.Item.{Item}
+use Rattle.bundle_syntax.specs.Item.{Item}
 use Rattle.bundle_rules.specs.Places.{Occurrence as Place, occurrences}
 use Rattle.bundle_rules.specs.Scopes.{ModuleKind}
 use Rattle.bundle_rules.specs.Nodes.{Text}
@@ -9,11 +9,11 @@ use Rattle.bundle_rules.specs.Idents as terms
 use Rattle.bundle_rules.specs.Idents.{Ident, idents}
 use Rattle.bundle_rules.specs.Rebuilds.{Change, changes_to, change_to, listed, rebuilt}
 use Rattle.bundle_rules.specs.Renamed.{IsResolvedFrom}
-use Rattle.bundle_tree_places.specs.declared.mark.Occurrence.{Occurrence}
+use Rattle.bundle_tree_places.specs.declared.mark.OccurrenceRef.{OccurrenceRef}
 use Rattle.bundle_tree_places.specs.Marks.{ident_of, listed_of}
 use Rattle.bundle_tree_places.proofs.RenameLemmas.{idents-listed}
-use Rattle.bundle_scope_names.specs.declared.contexts.Resolution.{Resolution}
-use Rattle.bundle_scope_names.specs.Resolution.{AreFit, ResolvesFit, tree_with, with_contexts}
+use Rattle.bundle_scope_names.specs.declared.contexts.ContextsGiven.{ContextsGiven}
+use Rattle.bundle_scope_names.specs.Resolution.{AreContextsFit, ResolvesFit, tree_with, with_contexts}
 use Rattle.bundle_scope.specs.Faces.{in_contexts}
 
 -- a change that keeps the symbol spells nothing out
@@ -36,7 +36,7 @@ in-contexts (o ∷ os) [] = refl
 in-contexts (o ∷ os) (c ∷ cs) = ap (λ (rest : List Ident). (o.sym, c) ∷ rest) (in-contexts os cs)
 
 -- what is rebuilt by these changes is the tree with these contexts
-pub tree-with : (tree : List Item) (all : List Occurrence) (contexts : List ℕ) (changes : List Change) → map listed_of all ≡ listed tree → changes ≡ changes_to (map (λ o. ident_of o.id) all) (in_contexts (map (λ o. ident_of o.id) all) contexts) → rebuilt tree changes ≡ tree_with tree contexts
+pub tree-with : (tree : List Item) (all : List OccurrenceRef) (contexts : List ℕ) (changes : List Change) → map listed_of all ≡ listed tree → changes ≡ changes_to (map (λ o. ident_of o.id) all) (in_contexts (map (λ o. ident_of o.id) all) contexts) → rebuilt tree changes ≡ tree_with tree contexts
 tree-with tree all contexts changes listed_is is =
     ap (rebuilt tree)
     (is
@@ -44,7 +44,7 @@ tree-with tree all contexts changes listed_is is =
     ∙ ap (changes_to (idents tree)) (in-contexts (occurrences tree) contexts))
 
 -- what is rebuilt by these changes is resolved, where the contexts resolve the tree
-pub resolved-so : (kind : ModuleKind) (local next later : ℕ) (tree list made : List Item) (resolution : Resolution) (all : List Occurrence) (changes : List Change) → ResolvesFit kind list local next (Some resolution) → list ≡ tree → map listed_of all ≡ listed tree → changes ≡ changes_to (map (λ o. ident_of o.id) all) (in_contexts (map (λ o. ident_of o.id) all) resolution.contexts.items) → made ≡ rebuilt tree changes → later ≡ resolution.next → AreFit local next → IsResolvedFrom kind local next later tree made
+pub resolved-so : (kind : ModuleKind) (local next later : ℕ) (tree list made : List Item) (resolution : ContextsGiven) (all : List OccurrenceRef) (changes : List Change) → ResolvesFit kind list local next (Some resolution) → list ≡ tree → map listed_of all ≡ listed tree → changes ≡ changes_to (map (λ o. ident_of o.id) all) (in_contexts (map (λ o. ident_of o.id) all) resolution.contexts.items) → made ≡ rebuilt tree changes → later ≡ resolution.next → AreContextsFit local next → IsResolvedFrom kind local next later tree made
 resolved-so kind local next later tree list made resolution all changes resolves same listed_is is made_is later_is fit =
     let contexts : List ℕ = resolution.contexts.items in
     let its : IsResolvedFrom kind local next resolution.next tree (tree_with tree contexts) = (subst (λ t. ResolvesFit kind t local next (Some resolution)) same resolves fit).1 in

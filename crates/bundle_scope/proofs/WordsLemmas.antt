@@ -7,13 +7,13 @@ use Rattle.bundle_tree_ast.specs.declared.module.DefaultDecl.{DefaultDecl}
 use Rattle.bundle_tree_ast.specs.declared.stmt.Stmt.{Stmt}
 use Rattle.bundle_tree_ast.specs.declared.decl.Decl.{Decl}
 use Rattle.bundle_tree_ast.specs.declared.expr.Expr.{Expr}
-use Rattle.bundle_tree_piece.specs.declared.piece.Role.TheVariants as r
-use Rattle.bundle_tree_piece.specs.Item as h
-use Rattle.bundle_tree_piece.specs.Item.{Item, Head}
+use Rattle.bundle_syntax.specs.declared.piece.Role.TheVariants as r
+use Rattle.bundle_syntax.specs.Item as h
+use Rattle.bundle_syntax.specs.Item.{Item, Head}
 use Rattle.bundle_tree_listed.specs.Tree.{node, stmt_items, decl_items, expr_items, default_decl_items}
 use Rattle.bundle_rules.specs.Cleared.{cleared_head, without_notes, tidied}
-use Rattle.bundle_scope_renamed.specs.fit.Words.{HasNoWords}
-use Rattle.bundle_scope_renamed.proofs.grown.Trees.{stmt_wordless, decl_wordless, expr_wordless, default_wordless}
+use Rattle.bundle_scope_names.specs.fit.Words.{HasNoWords}
+use Rattle.bundle_scope_names.proofs.grown.Trees.{stmt_wordless, decl_wordless, expr_wordless, default_wordless}
 use Rattle.bundle_scope.specs.Named.{word_aside, words_aside, AreWordsClear}
 
 words-append : (xs ys : List Item) → words_aside (xs ++ ys) ≡ words_aside xs ++ words_aside ys

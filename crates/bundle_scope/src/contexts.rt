@@ -16,9 +16,9 @@ pub struct Contexts {
 
 impl Model for Contexts {
     ghost use Rattle.bundle_tree_names.specs.FileName.{name_of};
-    ghost use Rattle.bundle_scope.specs.Contexts.{Held};
+    ghost use Rattle.bundle_scope.specs.Contexts.{HeldContexts};
 
-    ghost Value = { Held };
+    ghost Value = { HeldContexts };
 
     ghost view = { λ it. record { file = name_of it.file; local = it.local; next = it.next } };
 }

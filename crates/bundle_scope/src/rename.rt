@@ -8,7 +8,7 @@ ghost use Rattle.bundle_rules.specs.Rebuilds.{ident_eq, renamed_all};
 ghost use Rattle.bundle_tree_places.specs.Changes.{change_of};
 ghost use Rattle.bundle_tree_places.specs.Marks.{ident_of};
 ghost use Rattle.bundle_marks.specs.Idents.{ident_named};
-ghost use Rattle.bundle_marks.specs.Composed.{list_of};
+ghost use Rattle.bundle_marks.specs.Composed.{items_list};
 ghost use Rattle.bundle_marks.specs.Renamings.{unchanged};
 
 use crate::listing::listing_of;
@@ -16,7 +16,7 @@ use bundle_marks::Renaming;
 use bundle_tree::Id;
 use bundle_tree_ast::ModuleItem;
 use bundle_tree_names::{Error, SyntaxContext};
-use bundle_tree_places::{Change, Name, Occurrence};
+use bundle_tree_places::{Change, Name, OccurrenceRef};
 use bundle_tree_rewrite::{rebuild_item, rebuild_items};
 use std::alloc::{AllocError, Global};
 use std::slice;
@@ -29,7 +29,7 @@ pub fn rename_all(
     renaming: &Renaming,
 ) -> Result<Vec<ModuleItem>, Error>
     ensures renamed { IfOk result (λ made.
-        list_of made.items ≡ renamed_all renaming.now (list_of items.now)) }
+        items_list made.items ≡ renamed_all renaming.now (items_list items.now)) }
     ensures refused { IfErr result (λ refusal. refusal ≡ Error.OutOfMemory) }
 {
     let listing = listing_of(alloc, items)?;
@@ -55,7 +55,7 @@ pub fn rename_item(
 // The changes of these occurrences to what they become. One text serves to ask for each of them.
 fn changes_by<'a>(
     alloc: Global,
-    listed: &[Occurrence<'a>],
+    listed: &[OccurrenceRef<'a>],
     renaming: &'a Renaming,
 ) -> Result<Vec<Change<'a>>, AllocError>
     ensures { IfOk result (λ changes.

@@ -1,27 +1,27 @@
 //! The resolver: the contexts of a module tell apart what its names denote.
 
 ghost use Rattle.std.specs.Prelude.{◌≡◌, IfErr, IfOk, None, OnErr, OnOk, map};
-ghost use Rattle.bundle_tree_piece.specs.Item.{item_of};
+ghost use Rattle.bundle_syntax.specs.Item.{item_of};
 ghost use Rattle.bundle_rules.specs.Doubled as Doubled;
 ghost use Rattle.bundle_rules.specs.Rebuilds as rebuilds;
 ghost use Rattle.bundle_tree_places.specs.Changes.{change_of};
 ghost use Rattle.bundle_tree_places.specs.Marks.{ident_of};
 ghost use Rattle.bundle_tree_names.specs.FileName.{name_of};
 ghost use Rattle.bundle_scope_denote.specs.Kinds.{kind_as};
-ghost use Rattle.bundle_marks.specs.Composed.{list_of};
+ghost use Rattle.bundle_marks.specs.Composed.{items_list};
 ghost use Rattle.bundle_scope.specs.Contexts.{HasGiven};
 ghost use Rattle.bundle_scope.specs.Faces.{in_contexts};
-ghost use Rattle.bundle_scope.specs.Resolved.{IsJudged, IsResolvedBy};
+ghost use Rattle.bundle_scope.specs.Resolved.{IsScopeJudged, IsResolvedBy};
 ghost use Rattle.bundle_scope.specs.Refusals.{IsDoubled, IsUsedUp, MayRefuse};
 
 use crate::contexts::Contexts;
 use crate::listing::listing_of;
 use bundle_scope_denote::{ModuleKind, first_doubled};
-use bundle_scope_names::{Resolution, contexts_of};
+use bundle_scope_names::{ContextsGiven, contexts_of};
+use bundle_syntax::Piece;
 use bundle_tree_ast::Module;
 use bundle_tree_names::{Error, FileName};
-use bundle_tree_piece::Piece;
-use bundle_tree_places::{Change, Name, Occurrence};
+use bundle_tree_places::{Change, Name, OccurrenceRef};
 use bundle_tree_rewrite::rebuild_items;
 use std::alloc::{AllocError, Global};
 
@@ -34,21 +34,21 @@ use std::alloc::{AllocError, Global};
 /// for memory. The contexts are then unchanged.
 pub fn resolve_scopes(
     alloc: Global,
-    module: &Module,
+    tree: &Module,
     kind: ModuleKind,
     contexts: &mut Contexts,
 ) -> Result<Module, Error>
     ensures resolved { IfOk result (λ made.
-        IsResolvedBy (kind_as kind) contexts.old contexts.new (list_of «module».now.body.items)
-        (list_of made.body.items)) }
+        IsResolvedBy (kind_as kind) contexts.old contexts.new (items_list tree.now.body.items)
+        (items_list made.body.items)) }
     ensures undoubled { OnOk result
-        (Doubled.first_doubled (kind_as kind) (list_of «module».now.body.items) ≡ None) }
+        (Doubled.first_doubled (kind_as kind) (items_list tree.now.body.items) ≡ None) }
     ensures given { OnOk result (HasGiven contexts.old contexts.new) }
     ensures refused { IfErr result
-        (MayRefuse (kind_as kind) contexts.old (list_of «module».now.body.items)) }
+        (MayRefuse (kind_as kind) contexts.old (items_list tree.now.body.items)) }
     ensures unchanged { OnErr result (contexts.new ≡ contexts.old) }
 {
-    let items = module.body.as_slice();
+    let items = tree.body.as_slice();
     let listing = listing_of(alloc, items)?;
     let resolution = judged(alloc, &listing.list, kind, contexts)?;
     let changes = changes_to(alloc, &listing.occurrences, &resolution.contexts)?;
@@ -63,8 +63,8 @@ fn judged<'a>(
     list: &[Piece<'a>],
     kind: ModuleKind,
     contexts: &Contexts,
-) -> Result<Resolution, Error>
-    ensures judged { IfOk result (IsJudged (kind_as kind) contexts.now (map item_of list.now)) }
+) -> Result<ContextsGiven, Error>
+    ensures judged { IfOk result (IsScopeJudged (kind_as kind) contexts.now (map item_of list.now)) }
     ensures refused { IfErr result (MayRefuse (kind_as kind) contexts.now (map item_of list.now)) }
 {
     if let Some(doubled) = first_doubled(alloc, list, kind)? {
@@ -99,7 +99,7 @@ fn lack_of_contexts(file: &FileName) -> Result<Error, AllocError>
 // The changes of these occurrences to the same symbols in these contexts, in turn.
 fn changes_to<'a>(
     alloc: Global,
-    occurrences: &[Occurrence<'a>],
+    occurrences: &[OccurrenceRef<'a>],
     contexts: &[u32],
 ) -> Result<Vec<Change<'a>>, AllocError>
     ensures { IfOk result (λ changes.

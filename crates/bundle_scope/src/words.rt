@@ -1,9 +1,9 @@
 //! The identifiers of a module that denote nothing in it: names of other modules, and those that it exports under.
 
 ghost use Rattle.std.specs.Prelude.{◌≡◌, ℕ, flat_map};
-ghost use Rattle.bundle_tree_piece.specs.declared.piece.Role.TheVariants as role;
+ghost use Rattle.bundle_syntax.specs.declared.piece.Role.TheVariants as role;
 ghost use Rattle.bundle_tree_listed.specs.Tree.{export_specifier_items, import_specifier_items, module_decl_items, module_export_name_items, module_item_items, option_items};
-ghost use Rattle.bundle_marks.specs.Composed.{list_of};
+ghost use Rattle.bundle_marks.specs.Composed.{items_list};
 ghost use Rattle.bundle_scope.specs.Named.{AreWordsClear, words_aside};
 
 use bundle_tree_ast::{ExportSpecifier, ImportSpecifier, ModuleDecl, ModuleExportName, ModuleItem};
@@ -11,8 +11,8 @@ use bundle_tree_names::SyntaxContext;
 
 /// Makes the context of each name that is imported or exported 0.
 pub(crate) fn clear_words(items: &mut Vec<ModuleItem>)
-    ensures same { words_aside (list_of items.new.items) ≡ words_aside (list_of items.old.items) }
-    ensures clear { AreWordsClear (list_of items.new.items) }
+    ensures same { words_aside (items_list items.new.items) ≡ words_aside (items_list items.old.items) }
+    ensures clear { AreWordsClear (items_list items.new.items) }
 {
     for place in 0..items.len() {
         clear_item(&mut items[place]);

@@ -4,20 +4,20 @@ use Rattle.std.specs.Prelude.{slice_get}
 use Rattle.std.specs.List.{AllZip}
 use Rattle.std.proofs.lemmas.Option.{none-some}
 use Rattle.bundle_rules.specs.Scopes as s
-use Rattle.bundle_scope_denote.specs.Numbers.{Numbered, AreAround, Keeps}
+use Rattle.bundle_scope_denote.specs.Numbers.{NumberedScope, AreAround, KeepsNumbers}
 
 -- what is added behind changes no number
-pub Keeps-append : {X : Type 0} (xs ys : List X) → Keeps xs (xs ++ ys)
+pub Keeps-append : {X : Type 0} (xs ys : List X) → KeepsNumbers xs (xs ++ ys)
 Keeps-append [] ys number x e = absurd (none-some x e)
 Keeps-append (first ∷ rest) ys zero x e = e
 Keeps-append (first ∷ rest) ys (suc number) x e = Keeps-append rest ys number x e
 
 -- nor does adding nothing
-pub Keeps-same : {X : Type 0} (xs ys : List X) → ys ≡ xs → Keeps xs ys
+pub Keeps-same : {X : Type 0} (xs ys : List X) → ys ≡ xs → KeepsNumbers xs ys
 Keeps-same xs ys e number x at = ap (λ l. slice_get l number) e ∙ at
 
 -- nor does adding twice
-pub Keeps-twice : {X : Type 0} (xs ys zs : List X) → Keeps xs ys → Keeps ys zs → Keeps xs zs
+pub Keeps-twice : {X : Type 0} (xs ys zs : List X) → KeepsNumbers xs ys → KeepsNumbers ys zs → KeepsNumbers xs zs
 Keeps-twice xs ys zs first second number x at = second number x (first number x at)
 
 -- what is added has the next number
@@ -26,7 +26,7 @@ slice_get-next [] x = refl
 slice_get-next (first ∷ rest) x = slice_get-next rest x
 
 -- the scopes around are the same in a table that has grown
-pub AreAround-keeps : (old new : List Numbered) → Keeps old new → (number : Option ℕ) (scopes : List s.Scope) → AreAround old number scopes → AreAround new number scopes
+pub AreAround-keeps : (old new : List NumberedScope) → KeepsNumbers old new → (number : Option ℕ) (scopes : List s.Scope) → AreAround old number scopes → AreAround new number scopes
 AreAround-keeps old new keeps None [] around = around
 AreAround-keeps old new keeps None (scope ∷ outer) around = around
 AreAround-keeps old new keeps (Some number) [] around = around

@@ -1,19 +1,19 @@
 -- What the code knows of the innermost node says what a node in it means: its way, that of its declarators, its scope.
 use Rattle.std.proofs.Common.{◌≡◌, ℕ, List, Some, None, option_map, Bool, true, false, cond, ◌&&◌, ◌==◌, refl, ap}
-use Rattle.bundle_tree_leaf.specs.declared.kind.VarDeclKind.{VarDeclKind}
-use Rattle.bundle_tree_leaf.specs.declared.kind.VarDeclKind.TheVariants as v
-use Rattle.bundle_tree_piece.specs.Item as h
-use Rattle.bundle_tree_piece.specs.Item.{Head}
+use Rattle.bundle_syntax.specs.declared.kind.VarDeclKind.{VarDeclKind}
+use Rattle.bundle_syntax.specs.declared.kind.VarDeclKind.TheVariants as v
+use Rattle.bundle_syntax.specs.Item as h
+use Rattle.bundle_syntax.specs.Item.{Head}
 use Rattle.bundle_rules.specs.Places.{Around}
 use Rattle.bundle_rules.specs.Scopes as s
 use Rattle.bundle_rules.specs.Declarations as d
-use Rattle.bundle_scope_denote.specs.Kinds.{way_named, kind_named, way_of_kind, way_of_variable, way_in, kind_made, leaves_first_out}
+use Rattle.bundle_scope_denote.specs.Kinds.{way_named, kind_named, kind_way, variable_way, head_way_in, kind_made, leaves_first_out}
 
 named_cond : (b : Bool) (x y : d.Way) → cond b (way_named x) (way_named y) ≡ way_named (cond b x y)
 named_cond true x y = refl
 named_cond false x y = refl
 
-pub way_in-named : (head : Head) (path : List Around) → way_in head (option_map way_named (d.way_of_declarator path)) (s.is_default path) ≡ option_map way_named (d.way_in head path)
+pub way_in-named : (head : Head) (path : List Around) → head_way_in head (option_map way_named (d.way_of_declarator path)) (s.is_default path) ≡ option_map way_named (d.way_in head path)
 way_in-named h.Module path = refl
 way_in-named (h.ImportDecl a) path = refl
 way_in-named h.ImportNamedSpecifier path = refl
@@ -109,12 +109,12 @@ way_in-named (h.ClassProp a) path = refl
 way_in-named (h.PrivateProp a) path = refl
 way_in-named h.StaticBlock path = refl
 
-way_of_kind-named : (kind : VarDeclKind) (path : List Around) → way_of_kind kind (d.heads_loop path) ≡ way_named (d.way_of_kind kind path)
+way_of_kind-named : (kind : VarDeclKind) (path : List Around) → kind_way kind (d.heads_loop path) ≡ way_named (d.way_of_kind kind path)
 way_of_kind-named v.Var path = refl
 way_of_kind-named v.Let path = named_cond (d.heads_loop path) d.ByLoop d.ByLet
 way_of_kind-named v.Const path = named_cond (d.heads_loop path) d.ByLoop d.ByConst
 
-pub way_of_variable-named : (head : Head) (path : List Around) → way_of_variable head (d.heads_loop path) ≡ option_map way_named (d.way_of_variable head path)
+pub way_of_variable-named : (head : Head) (path : List Around) → variable_way head (d.heads_loop path) ≡ option_map way_named (d.way_of_variable head path)
 way_of_variable-named h.Module path = refl
 way_of_variable-named (h.ImportDecl a) path = refl
 way_of_variable-named h.ImportNamedSpecifier path = refl

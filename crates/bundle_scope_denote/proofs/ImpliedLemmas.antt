@@ -8,15 +8,15 @@ use Rattle.bundle_rules.specs.Scopes as s
 use Rattle.bundle_rules.specs.Declarations as d
 use Rattle.bundle_rules.specs.Homes as o
 use Rattle.bundle_rules.specs.Denotes as e
-use Rattle.bundle_scope_denote.specs.Numbers.{Numbered}
-use Rattle.bundle_scope_denote.specs.Chains.{scope_at, AreInOrder, IsOnce}
-use Rattle.bundle_scope_denote.specs.Bound.{Key, same_key, exactly, IsHome, is_written_key, is_written_name, alone}
+use Rattle.bundle_scope_denote.specs.Numbers.{NumberedScope}
+use Rattle.bundle_scope_denote.specs.Chains.{numbered_scope_at, AreInOrder, IsOnce}
+use Rattle.bundle_scope_denote.specs.Bound.{ScopeKey, same_key, exactly, IsHome, is_written_key, is_written_name, alone}
 use Rattle.bundle_scope_denote.proofs.ZipLemmas.{list_any-zipped}
 use Rattle.bundle_scope_denote.proofs.KeyLemmas.{at_key, scope-agrees, exactly-Decides}
 use Rattle.bundle_scope_denote.proofs.ParameterLemmas.{list_any-or, list_any-same}
 
 -- a key that an identifier has there is that of a declaration with one
-written-by_key : (scopes : List Numbered) (names : List d.Name) (all : List d.Declared) → AreInOrder scopes → (n : ℕ) (scope : s.Scope) (symbol : List ℕ) → scope_at scopes n ≡ Some scope → (keys : List Key) (some : List d.Declared) → AllZip (IsHome scopes names all) keys some → list_any (is_written_key names n symbol) keys ≡ list_any (λ x. e.has_identifier x && o.is_declared_in all scope (alone symbol) x) some
+written-by_key : (scopes : List NumberedScope) (names : List d.Name) (all : List d.Declared) → AreInOrder scopes → (n : ℕ) (scope : s.Scope) (symbol : List ℕ) → numbered_scope_at scopes n ≡ Some scope → (keys : List ScopeKey) (some : List d.Declared) → AllZip (IsHome scopes names all) keys some → list_any (is_written_key names n symbol) keys ≡ list_any (λ x. e.has_identifier x && o.is_declared_in all scope (alone symbol) x) some
 written-by_key scopes names all ordered n scope symbol at_n keys some known = list_any-zipped (IsHome scopes names all) (is_written_key names n symbol) (λ x. e.has_identifier x && o.is_declared_in all scope (alone symbol) x) one keys some known
   where
     swapped : (a b c : Bool) → (a && (b && c)) ≡ (b && (a && c))
@@ -36,7 +36,7 @@ written-by_key scopes names all ordered n scope symbol at_n keys some known = li
         agree None = refl
         agree (Some c) = ap (λ u. t && u) (whole (bytes_eq name.sym symbol))
 
-    one : (key : Key) (x : d.Declared) → IsHome scopes names all key x → is_written_key names n symbol key ≡ (e.has_identifier x && o.is_declared_in all scope (alone symbol) x)
+    one : (key : ScopeKey) (x : d.Declared) → IsHome scopes names all key x → is_written_key names n symbol key ≡ (e.has_identifier x && o.is_declared_in all scope (alone symbol) x)
     one key x is = ap₂ (λ (a : Bool) (b : Bool). a && b) (scope-agrees scopes ordered n scope at_n key.0 (o.home_of all x) is.scope) (ap (λ y. is_written_name symbol y) is.name) ∙ by_name (s.same_scope (o.home_of all x) scope) x.name
 
 -- what is declared there is declared without a context, or by an identifier
@@ -52,7 +52,7 @@ declared-split all scope symbol x = by (s.same_scope (o.home_of all x) scope) (b
     by false u (Some c) = refl
 
 -- a scope binds the symbol though no identifier declares it there
-pub implied-by_key : (scopes : List Numbered) (names : List d.Name) (all : List d.Declared) → AreInOrder scopes → IsOnce names → (n number : ℕ) (scope : s.Scope) (symbol : List ℕ) → scope_at scopes n ≡ Some scope → slice_get names number ≡ Some (alone symbol) → (keys : List Key) → AllZip (IsHome scopes names all) keys all → (list_any (same_key (n, number)) keys && not (list_any (is_written_key names n symbol) keys)) ≡ (o.declares all scope (alone symbol) && not (e.is_written_in all scope (alone symbol)))
+pub implied-by_key : (scopes : List NumberedScope) (names : List d.Name) (all : List d.Declared) → AreInOrder scopes → IsOnce names → (n number : ℕ) (scope : s.Scope) (symbol : List ℕ) → numbered_scope_at scopes n ≡ Some scope → slice_get names number ≡ Some (alone symbol) → (keys : List ScopeKey) → AllZip (IsHome scopes names all) keys all → (list_any (same_key (n, number)) keys && not (list_any (is_written_key names n symbol) keys)) ≡ (o.declares all scope (alone symbol) && not (e.is_written_in all scope (alone symbol)))
 implied-by_key scopes names all ordered once n number scope symbol at_n at_number keys known =
     ap₂ (λ (a : Bool) (b : Bool). a && not b) plain written ∙ only (list_any (λ x. s.same_scope (o.home_of all x) scope && exactly x.name (alone symbol)) all) (e.is_written_in all scope (alone symbol)) ∙ ap (λ t. t && not (e.is_written_in all scope (alone symbol))) split
   where
@@ -71,7 +71,7 @@ implied-by_key scopes names all ordered once n number scope symbol at_n at_numbe
     split = list_any-or (λ x. s.same_scope (o.home_of all x) scope && exactly x.name (alone symbol)) (λ x. e.has_identifier x && o.is_declared_in all scope (alone symbol) x) all ∙ list_any-same (λ x. (s.same_scope (o.home_of all x) scope && exactly x.name (alone symbol)) || (e.has_identifier x && o.is_declared_in all scope (alone symbol) x)) (o.is_declared_in all scope (alone symbol)) (declared-split all scope symbol) all
 
 -- nothing is implied whose name has no number
-pub implied-nowhere : (scopes : List Numbered) (names : List d.Name) (all : List d.Declared) (scope : s.Scope) (symbol : List ℕ) → ((number : ℕ) → slice_get names number ≡ Some (alone symbol) → ⊥) → (keys : List Key) → AllZip (IsHome scopes names all) keys all → (o.declares all scope (alone symbol) && not (e.is_written_in all scope (alone symbol))) ≡ false
+pub implied-nowhere : (scopes : List NumberedScope) (names : List d.Name) (all : List d.Declared) (scope : s.Scope) (symbol : List ℕ) → ((number : ℕ) → slice_get names number ≡ Some (alone symbol) → ⊥) → (keys : List ScopeKey) → AllZip (IsHome scopes names all) keys all → (o.declares all scope (alone symbol) && not (e.is_written_in all scope (alone symbol))) ≡ false
 implied-nowhere scopes names all scope symbol absent keys known = ap (λ t. t && not (e.is_written_in all scope (alone symbol))) (sym split) ∙ ap (λ t. (t || e.is_written_in all scope (alone symbol)) && not (e.is_written_in all scope (alone symbol))) (none keys all known) ∙ never (e.is_written_in all scope (alone symbol))
   where
     never : (t : Bool) → ((false || t) && not t) ≡ false
@@ -85,11 +85,11 @@ implied-nowhere scopes names all scope symbol absent keys known = ap (λ t. t &&
     shut true = refl
     shut false = refl
 
-    fails : (key : Key) (x : d.Declared) → IsHome scopes names all key x → (t : Bool) → exactly x.name (alone symbol) ≡ t → (s.same_scope (o.home_of all x) scope && t) ≡ false
+    fails : (key : ScopeKey) (x : d.Declared) → IsHome scopes names all key x → (t : Bool) → exactly x.name (alone symbol) ≡ t → (s.same_scope (o.home_of all x) scope && t) ≡ false
     fails key x known true is = absurd (absent key.1 (known.name ∙ ap (λ y. Some y) ((exactly-Decides x.name (alone symbol)).0 is)))
     fails key x known false is = shut (s.same_scope (o.home_of all x) scope)
 
-    none : (keys : List Key) (some : List d.Declared) → AllZip (IsHome scopes names all) keys some → list_any (λ x. s.same_scope (o.home_of all x) scope && exactly x.name (alone symbol)) some ≡ false
+    none : (keys : List ScopeKey) (some : List d.Declared) → AllZip (IsHome scopes names all) keys some → list_any (λ x. s.same_scope (o.home_of all x) scope && exactly x.name (alone symbol)) some ≡ false
     none [] [] known = refl
     none [] (x ∷ xs) known = absurd known
     none (k ∷ ks) [] known = absurd known

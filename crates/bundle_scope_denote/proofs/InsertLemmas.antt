@@ -6,15 +6,15 @@ use Rattle.std.proofs.lemmas.Bool.{false≢true, and_from, and_parts, or_cases, 
 use Rattle.std.proofs.lemmas.Option.{none-some, same_Some}
 use Rattle.std.proofs.lemmas.List.Folds.{list_any-append}
 use Rattle.bundle_scope_denote.specs.Chains.{IsOnce}
-use Rattle.bundle_scope_denote.specs.Bound.{Key, same_key, put_key}
+use Rattle.bundle_scope_denote.specs.Bound.{ScopeKey, same_key, put_key}
 
-pub same_key-true : (a b : Key) → same_key a b ≡ true → a ≡ b
+pub same_key-true : (a b : ScopeKey) → same_key a b ≡ true → a ≡ b
 same_key-true a b e = both (and_parts (a.0 == b.0) (a.1 == b.1) e)
   where
     both : ((a.0 == b.0) ≡ true) × ((a.1 == b.1) ≡ true) → a ≡ b
-    both is = ap₂ (λ (x : ℕ) (y : ℕ). let key : Key = (x, y) in key) (eqb-true a.0 b.0 is.0) (eqb-true a.1 b.1 is.1)
+    both is = ap₂ (λ (x : ℕ) (y : ℕ). let key : ScopeKey = (x, y) in key) (eqb-true a.0 b.0 is.0) (eqb-true a.1 b.1 is.1)
 
-pub same_key-refl : (a : Key) → same_key a a ≡ true
+pub same_key-refl : (a : ScopeKey) → same_key a a ≡ true
 same_key-refl a = and_from (a.0 == a.0) (a.1 == a.1) (eq-eqb a.0 a.0 refl) (eq-eqb a.1 a.1 refl)
 
 -- an element that passes
@@ -32,12 +32,12 @@ list_any-found {X = X} p (x ∷ xs) e = here_or_later (list_any-found p xs) (or_
     here_or_later ih (inr later) = let found = ih later in (suc found.0, found.1, found.2, found.3)
 
 -- a key that is there
-pub key-there : (keys : List Key) (key : Key) → list_any (same_key key) keys ≡ true → (i : ℕ) × (slice_get keys i ≡ Some key)
+pub key-there : (keys : List ScopeKey) (key : ScopeKey) → list_any (same_key key) keys ≡ true → (i : ℕ) × (slice_get keys i ≡ Some key)
 key-there keys key e = let found = list_any-found (same_key key) keys e in
     (found.0, found.2 ∙ ap (λ k. Some k) (sym (same_key-true key found.1 found.3)))
 
 -- what passes once a key is put
-pub any-put : (p : Key → Bool) (keys : List Key) (key : Key) → list_any p (put_key keys key) ≡ (list_any p keys || p key)
+pub any-put : (p : ScopeKey → Bool) (keys : List ScopeKey) (key : ScopeKey) → list_any p (put_key keys key) ≡ (list_any p keys || p key)
 any-put p keys key = by (list_any (same_key key) keys) refl
   where
     one : (a b : Bool) → (a || (b || false)) ≡ (a || b)
@@ -75,7 +75,7 @@ once_more {X = X} xs y once absent i j x at_i at_j = by (at_append xs y i x at_i
     by (inr a) (inr b) = a.0 ∙ sym b.0
 
 -- keys that are put are there once
-pub once-put : (keys : List Key) (key : Key) → IsOnce keys → IsOnce (put_key keys key)
+pub once-put : (keys : List ScopeKey) (key : ScopeKey) → IsOnce keys → IsOnce (put_key keys key)
 once-put keys key once = by (list_any (same_key key) keys) refl
   where
     by : (t : Bool) → list_any (same_key key) keys ≡ t → IsOnce (if t then keys else keys ++ key ∷ [])

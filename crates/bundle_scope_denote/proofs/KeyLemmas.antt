@@ -12,9 +12,9 @@ use Rattle.bundle_rules.specs.Scopes as s
 use Rattle.bundle_rules.specs.Declarations as d
 use Rattle.bundle_rules.specs.Homes as o
 use Rattle.bundle_rules.specs.Denotes as e
-use Rattle.bundle_scope_denote.specs.Numbers.{Numbered}
-use Rattle.bundle_scope_denote.specs.Chains.{scope_at, AreInOrder, IsOnce}
-use Rattle.bundle_scope_denote.specs.Bound.{Key, same_key, exactly, IsHome, IsReadAs, reads, adds, told, declares_in}
+use Rattle.bundle_scope_denote.specs.Numbers.{NumberedScope}
+use Rattle.bundle_scope_denote.specs.Chains.{numbered_scope_at, AreInOrder, IsOnce}
+use Rattle.bundle_scope_denote.specs.Bound.{ScopeKey, same_key, exactly, IsHome, IsDeclaredAs, reads, adds, is_name_bound, declares_in}
 use Rattle.bundle_scope_denote.proofs.ZipLemmas.{list_any-zipped}
 use Rattle.bundle_scope_denote.proofs.OutwardLemmas.{same-scope}
 
@@ -32,11 +32,11 @@ exactly-Decides a b = (λ e. same (and_parts (bytes_eq a.sym b.sym) (option_eq n
     same both = ap₂ (λ (sym : List ℕ) (ctxt : Option ℕ). let name : d.Name = record { sym = sym; ctxt = ctxt } in name) ((bytes_eq-Decides a.sym b.sym).0 both.0) ((option_eq-Decides a.ctxt b.ctxt).0 both.1)
 
 -- numbers agree exactly if the scopes do
-pub scope-agrees : (scopes : List Numbered) → AreInOrder scopes → (n : ℕ) (scope : s.Scope) → scope_at scopes n ≡ Some scope → (m : ℕ) (other : s.Scope) → scope_at scopes m ≡ Some other → (n == m) ≡ s.same_scope other scope
-scope-agrees scopes ordered n scope at_n m other at_other = same_from_decides (n == m) (s.same_scope other scope) (Decides-eqb n m) (λ e. same-scope scopes ordered n m scope other at_n at_other (sym (eqb-true (s.scope_order other) (s.scope_order scope) e)), λ e. eq-eqb (s.scope_order other) (s.scope_order scope) (ap s.scope_order (same_Some other scope (sym at_other ∙ ap (scope_at scopes) (sym e) ∙ at_n))))
+pub scope-agrees : (scopes : List NumberedScope) → AreInOrder scopes → (n : ℕ) (scope : s.Scope) → numbered_scope_at scopes n ≡ Some scope → (m : ℕ) (other : s.Scope) → numbered_scope_at scopes m ≡ Some other → (n == m) ≡ s.same_scope other scope
+scope-agrees scopes ordered n scope at_n m other at_other = same_from_decides (n == m) (s.same_scope other scope) (Decides-eqb n m) (λ e. same-scope scopes ordered n m scope other at_n at_other (sym (eqb-true (s.scope_order other) (s.scope_order scope) e)), λ e. eq-eqb (s.scope_order other) (s.scope_order scope) (ap s.scope_order (same_Some other scope (sym at_other ∙ ap (numbered_scope_at scopes) (sym e) ∙ at_n))))
 
 -- a key is that of a scope and a name exactly if what has the key is
-pub same_key-at : (scopes : List Numbered) (names : List d.Name) → AreInOrder scopes → IsOnce names → (n number : ℕ) (scope : s.Scope) (name : d.Name) → scope_at scopes n ≡ Some scope → slice_get names number ≡ Some name → (key : Key) (other : s.Scope) (other_name : d.Name) → scope_at scopes key.0 ≡ Some other → slice_get names key.1 ≡ Some other_name → same_key (n, number) key ≡ (s.same_scope other scope && exactly other_name name)
+pub same_key-at : (scopes : List NumberedScope) (names : List d.Name) → AreInOrder scopes → IsOnce names → (n number : ℕ) (scope : s.Scope) (name : d.Name) → numbered_scope_at scopes n ≡ Some scope → slice_get names number ≡ Some name → (key : ScopeKey) (other : s.Scope) (other_name : d.Name) → numbered_scope_at scopes key.0 ≡ Some other → slice_get names key.1 ≡ Some other_name → same_key (n, number) key ≡ (s.same_scope other scope && exactly other_name name)
 same_key-at scopes names ordered once n number scope name at_n at_number key other other_name at_other at_name = ap₂ (λ (a : Bool) (b : Bool). a && b) (scope-agrees scopes ordered n scope at_n key.0 other at_other) second
   where
     names_same : Decides (exactly other_name name) (number ≡ key.1)
@@ -45,7 +45,7 @@ same_key-at scopes names ordered once n number scope name at_n at_number key oth
     second : (number == key.1) ≡ exactly other_name name
     second = same_from_decides (number == key.1) (exactly other_name name) (Decides-eqb number key.1) names_same
 
-pub at_key : (scopes : List Numbered) (names : List d.Name) (all : List d.Declared) → AreInOrder scopes → IsOnce names → (n number : ℕ) (scope : s.Scope) (name : d.Name) → scope_at scopes n ≡ Some scope → slice_get names number ≡ Some name → (key : Key) (x : d.Declared) → IsHome scopes names all key x → same_key (n, number) key ≡ (s.same_scope (o.home_of all x) scope && exactly x.name name)
+pub at_key : (scopes : List NumberedScope) (names : List d.Name) (all : List d.Declared) → AreInOrder scopes → IsOnce names → (n number : ℕ) (scope : s.Scope) (name : d.Name) → numbered_scope_at scopes n ≡ Some scope → slice_get names number ≡ Some name → (key : ScopeKey) (x : d.Declared) → IsHome scopes names all key x → same_key (n, number) key ≡ (s.same_scope (o.home_of all x) scope && exactly x.name name)
 at_key scopes names all ordered once n number scope name at_n at_number key x known = same_key-at scopes names ordered once n number scope name at_n at_number key (o.home_of all x) x.name known.scope known.name
 
 -- where no context is read, names agree if they are the same
@@ -69,18 +69,18 @@ agree-read t a b is = by t (bytes_eq a.sym b.sym) a.ctxt b.ctxt is
     by false u None (Some y) is = refl
 
 -- what a scope binds by declarations, in either reading, is what has its key
-pub told-by_key : (reading : d.Reading) (scopes : List Numbered) (names : List d.Name) (all : List d.Declared) → AreInOrder scopes → IsOnce names → (n number : ℕ) (scope : s.Scope) (name : d.Name) → scope_at scopes n ≡ Some scope → slice_get names number ≡ Some name → reads reading name ≡ true → (keys : List Key) (some : List d.Declared) → AllZip (λ key x. IsHome scopes names all key x × IsReadAs reading x) keys some → list_any (same_key (n, number)) keys ≡ list_any (λ x. declares_in reading all scope name x) some
+pub told-by_key : (reading : d.Reading) (scopes : List NumberedScope) (names : List d.Name) (all : List d.Declared) → AreInOrder scopes → IsOnce names → (n number : ℕ) (scope : s.Scope) (name : d.Name) → numbered_scope_at scopes n ≡ Some scope → slice_get names number ≡ Some name → reads reading name ≡ true → (keys : List ScopeKey) (some : List d.Declared) → AllZip (λ key x. IsHome scopes names all key x × IsDeclaredAs reading x) keys some → list_any (same_key (n, number)) keys ≡ list_any (λ x. declares_in reading all scope name x) some
 told-by_key d.BySymbol scopes names all ordered once n number scope name at_n at_number fits keys some known =
-    list_any-zipped (λ key x. IsHome scopes names all key x × IsReadAs d.BySymbol x) (same_key (n, number)) (o.is_declared_in all scope name) (λ key x is. at_key scopes names all ordered once n number scope name at_n at_number key x is.0 ∙ ap (λ t. s.same_scope (o.home_of all x) scope && t) (sym (agree-plain x.name name is.1 (plain name.ctxt fits)))) keys some known
+    list_any-zipped (λ key x. IsHome scopes names all key x × IsDeclaredAs d.BySymbol x) (same_key (n, number)) (o.is_declared_in all scope name) (λ key x is. at_key scopes names all ordered once n number scope name at_n at_number key x is.0 ∙ ap (λ t. s.same_scope (o.home_of all x) scope && t) (sym (agree-plain x.name name is.1 (plain name.ctxt fits)))) keys some known
   where
     plain : (ctxt : Option ℕ) → not (is_some ctxt) ≡ true → ctxt ≡ None
     plain None e = refl
     plain (Some c) e = absurd (false≢true e)
 told-by_key d.ByContext scopes names all ordered once n number scope name at_n at_number fits keys some known =
-    list_any-zipped (λ key x. IsHome scopes names all key x × IsReadAs d.ByContext x) (same_key (n, number)) (λ x. e.has_identifier x && o.is_declared_in all scope name x) (λ key x is. at_key scopes names all ordered once n number scope name at_n at_number key x is.0 ∙ sym (agree-read (s.same_scope (o.home_of all x) scope) x.name name fits)) keys some known
+    list_any-zipped (λ key x. IsHome scopes names all key x × IsDeclaredAs d.ByContext x) (same_key (n, number)) (λ x. e.has_identifier x && o.is_declared_in all scope name x) (λ key x is. at_key scopes names all ordered once n number scope name at_n at_number key x is.0 ∙ sym (agree-read (s.same_scope (o.home_of all x) scope) x.name name fits)) keys some known
 
 -- what a scope binds, in either reading
-pub told-split : (reading : d.Reading) (all : List d.Declared) (scope : s.Scope) (name : d.Name) → reads reading name ≡ true → (list_any (λ x. declares_in reading all scope name x) all || (adds reading name && o.is_function scope)) ≡ told reading all scope name
+pub told-split : (reading : d.Reading) (all : List d.Declared) (scope : s.Scope) (name : d.Name) → reads reading name ≡ true → (list_any (λ x. declares_in reading all scope name x) all || (adds reading name && o.is_function scope)) ≡ is_name_bound reading all scope name
 told-split d.ByContext all scope name fits = nothing (list_any (λ x. e.has_identifier x && o.is_declared_in all scope name x) all)
   where
     nothing : (t : Bool) → (t || false) ≡ t

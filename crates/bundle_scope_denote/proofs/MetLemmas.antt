@@ -11,9 +11,9 @@ use Rattle.bundle_rules.specs.Homes as o
 use Rattle.bundle_rules.specs.Doubled as u
 use Rattle.bundle_scope_denote.specs.declared.doubled.Met.{Met}
 use Rattle.bundle_scope_denote.specs.declared.doubled.Reach.{Reach}
-use Rattle.bundle_scope_denote.specs.Numbers.{Numbered}
-use Rattle.bundle_scope_denote.specs.Chains.{scope_at, AreInOrder, IsOnce}
-use Rattle.bundle_scope_denote.specs.Bound.{Key, same_key}
+use Rattle.bundle_scope_denote.specs.Numbers.{NumberedScope}
+use Rattle.bundle_scope_denote.specs.Chains.{numbered_scope_at, AreInOrder, IsOnce}
+use Rattle.bundle_scope_denote.specs.Bound.{ScopeKey, same_key}
 use Rattle.bundle_scope_denote.specs.Barred.{held_in, passed, barred_by, IsReachOf, has_any, is_key_in, is_taken_in, is_barred_in, HasMet}
 use Rattle.bundle_scope_denote.proofs.ZipLemmas.{list_any-zipped}
 use Rattle.bundle_scope_denote.proofs.KeyLemmas.{same_key-at, exactly-Decides, agree-plain}
@@ -87,7 +87,7 @@ any-swap p q xs (y ∷ ys) = ap (λ t. list_any (λ x. p x && q x y) xs || t) (a
     spread false b c = refl
 
 -- a name in a scope excludes what was met exactly if they collide
-pub excluded-met : (scopes : List Numbered) (names : List d.Name) (often : ℕ → Bool) (before : List d.Declared) (met : Met) (reach : Reach) (x : d.Declared) (number : ℕ) → often number ≡ true → HasMet scopes names often before met → IsReachOf scopes reach x → slice_get names number ≡ Some x.name → x.name.ctxt ≡ None → (list_any (same_key (reach.taker, number)) met.barred.keys || has_any met.taken.keys number reach.barred.items) ≡ list_any (λ a. collide a x) before
+pub excluded-met : (scopes : List NumberedScope) (names : List d.Name) (often : ℕ → Bool) (before : List d.Declared) (met : Met) (reach : Reach) (x : d.Declared) (number : ℕ) → often number ≡ true → HasMet scopes names often before met → IsReachOf scopes reach x → slice_get names number ≡ Some x.name → x.name.ctxt ≡ None → (list_any (same_key (reach.taker, number)) met.barred.keys || has_any met.taken.keys number reach.barred.items) ≡ list_any (λ a. collide a x) before
 excluded-met scopes names often before met reach x number twice known reaches named plain =
     ap₂ (λ (a : Bool) (b : Bool). a || b) first second ∙ list_any-or (is_barred_in (o.taker x) x.name) (λ a. agrees a && list_any (s.same_scope (o.taker a)) (barred_by x)) before ∙ list_any-same (λ a. is_barred_in (o.taker x) x.name a || (agrees a && list_any (s.same_scope (o.taker a)) (barred_by x))) (λ a. collide a x) each before
   where
@@ -121,11 +121,11 @@ any-more p (y ∷ ys) x = ap (λ t. p y || t) (any-more p ys x) ∙ regroup (p y
     regroup false b c = refl
 
 -- the key of a name in a scope
-key-told : (scopes : List Numbered) (names : List d.Name) → AreInOrder scopes → IsOnce names → (x : d.Declared) (own : ℕ) → slice_get names own ≡ Some x.name → x.name.ctxt ≡ None → (n number : ℕ) (scope : s.Scope) (name : d.Name) → scope_at scopes n ≡ Some scope → slice_get names number ≡ Some name → name.ctxt ≡ None → (m : ℕ) (other : s.Scope) → scope_at scopes m ≡ Some other → same_key (n, number) (m, own) ≡ (s.same_scope other scope && d.names_agree x.name name)
+key-told : (scopes : List NumberedScope) (names : List d.Name) → AreInOrder scopes → IsOnce names → (x : d.Declared) (own : ℕ) → slice_get names own ≡ Some x.name → x.name.ctxt ≡ None → (n number : ℕ) (scope : s.Scope) (name : d.Name) → numbered_scope_at scopes n ≡ Some scope → slice_get names number ≡ Some name → name.ctxt ≡ None → (m : ℕ) (other : s.Scope) → numbered_scope_at scopes m ≡ Some other → same_key (n, number) (m, own) ≡ (s.same_scope other scope && d.names_agree x.name name)
 key-told scopes names ordered once x own named plain n number scope name at_n at_number bare m other at_m = same_key-at scopes names ordered once n number scope name at_n at_number (m, own) other x.name at_m named ∙ ap (λ t. s.same_scope other scope && t) (sym (agree-plain x.name name plain bare))
 
 -- one more declaration was met
-pub met-more : (scopes : List Numbered) (names : List d.Name) → AreInOrder scopes → IsOnce names → (often : ℕ → Bool) (before : List d.Declared) (old new : Met) (reach : Reach) (x : d.Declared) (own : ℕ) → IsReachOf scopes reach x → slice_get names own ≡ Some x.name → x.name.ctxt ≡ None → ((key : Key) → list_any (same_key key) new.taken.keys ≡ (list_any (same_key key) old.taken.keys || same_key key (reach.taker, own))) → ((key : Key) → list_any (same_key key) new.barred.keys ≡ (list_any (same_key key) old.barred.keys || is_key_in key own reach.barred.items)) → HasMet scopes names often before old → HasMet scopes names often (before ++ x ∷ []) new
+pub met-more : (scopes : List NumberedScope) (names : List d.Name) → AreInOrder scopes → IsOnce names → (often : ℕ → Bool) (before : List d.Declared) (old new : Met) (reach : Reach) (x : d.Declared) (own : ℕ) → IsReachOf scopes reach x → slice_get names own ≡ Some x.name → x.name.ctxt ≡ None → ((key : ScopeKey) → list_any (same_key key) new.taken.keys ≡ (list_any (same_key key) old.taken.keys || same_key key (reach.taker, own))) → ((key : ScopeKey) → list_any (same_key key) new.barred.keys ≡ (list_any (same_key key) old.barred.keys || is_key_in key own reach.barred.items)) → HasMet scopes names often before old → HasMet scopes names often (before ++ x ∷ []) new
 met-more scopes names ordered once often before old new reach x own reaches named plain takes bars known = record {
   taken = λ n number scope name at_n at_number bare twice. takes (n, number) ∙ ap₂ (λ (a : Bool) (b : Bool). a || b) (known.taken n number scope name at_n at_number bare twice) (key-told scopes names ordered once x own named plain n number scope name at_n at_number bare reach.taker (o.taker x) reaches.taker ∙ turned (s.same_scope (o.taker x) scope) (d.names_agree x.name name)) ∙ sym (any-more (is_taken_in scope name) before x);
   barred = λ n number scope name at_n at_number bare twice. bars (n, number) ∙ ap₂ (λ (a : Bool) (b : Bool). a || b) (known.barred n number scope name at_n at_number bare twice) (barred_at n number scope name at_n at_number bare) ∙ sym (any-more (is_barred_in scope name) before x);
@@ -137,11 +137,11 @@ met-more scopes names ordered once often before old new reach x own reaches name
     turned false true = refl
     turned false false = refl
 
-    barred_at : (n number : ℕ) (scope : s.Scope) (name : d.Name) → scope_at scopes n ≡ Some scope → slice_get names number ≡ Some name → name.ctxt ≡ None → is_key_in (n, number) own reach.barred.items ≡ is_barred_in scope name x
+    barred_at : (n number : ℕ) (scope : s.Scope) (name : d.Name) → numbered_scope_at scopes n ≡ Some scope → slice_get names number ≡ Some name → name.ctxt ≡ None → is_key_in (n, number) own reach.barred.items ≡ is_barred_in scope name x
     barred_at n number scope name at_n at_number bare = list_any-zipped (IsScopeAt scopes) (λ m. same_key (n, number) (m, own)) (λ other. s.same_scope scope other && d.names_agree x.name name) (λ m other at_m. key-told scopes names ordered once x own named plain n number scope name at_n at_number bare m other at_m ∙ ap (λ t. t && d.names_agree x.name name) (same_scope-sym other scope)) reach.barred.items (barred_by x) reaches.barred ∙ any-and (s.same_scope scope) (d.names_agree x.name name) (barred_by x)
 
 -- nothing was met
-pub met-none : (scopes : List Numbered) (names : List d.Name) (often : ℕ → Bool) (met : Met) → met.taken.keys ≡ [] → met.barred.keys ≡ [] → HasMet scopes names often [] met
+pub met-none : (scopes : List NumberedScope) (names : List d.Name) (often : ℕ → Bool) (met : Met) → met.taken.keys ≡ [] → met.barred.keys ≡ [] → HasMet scopes names often [] met
 met-none scopes names often met none_taken none_barred = record {
   taken = λ n number scope name at_n at_number bare twice. ap (list_any (same_key (n, number))) none_taken;
   barred = λ n number scope name at_n at_number bare twice. ap (list_any (same_key (n, number))) none_barred;
@@ -156,7 +156,7 @@ apart-names names once own number x name at_own at_number plain bare apart = by 
     by true is = absurd (apart (once own number name (at_own ∙ ap (λ y. Some y) ((exactly-Decides x name).0 (sym (agree-plain x name plain bare) ∙ is))) at_number))
 
 -- a declaration whose name is declared once is passed over
-pub met-past : (scopes : List Numbered) (names : List d.Name) → IsOnce names → (often : ℕ → Bool) (before : List d.Declared) (met : Met) (x : d.Declared) (own : ℕ) → often own ≡ false → slice_get names own ≡ Some x.name → x.name.ctxt ≡ None → HasMet scopes names often before met → HasMet scopes names often (before ++ x ∷ []) met
+pub met-past : (scopes : List NumberedScope) (names : List d.Name) → IsOnce names → (often : ℕ → Bool) (before : List d.Declared) (met : Met) (x : d.Declared) (own : ℕ) → often own ≡ false → slice_get names own ≡ Some x.name → x.name.ctxt ≡ None → HasMet scopes names often before met → HasMet scopes names often (before ++ x ∷ []) met
 met-past scopes names once often before met x own rare named plain known = record {
   taken = λ n number scope name at_n at_number bare twice. known.taken n number scope name at_n at_number bare twice ∙ sym (none (list_any (is_taken_in scope name) before) (s.same_scope (o.taker x) scope) (d.names_agree x.name name) (other number name at_number bare twice)) ∙ sym (any-more (is_taken_in scope name) before x);
   barred = λ n number scope name at_n at_number bare twice. known.barred n number scope name at_n at_number bare twice ∙ sym (none (list_any (is_barred_in scope name) before) (list_any (s.same_scope scope) (barred_by x)) (d.names_agree x.name name) (other number name at_number bare twice)) ∙ sym (any-more (is_barred_in scope name) before x);

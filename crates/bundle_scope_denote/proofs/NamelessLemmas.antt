@@ -1,8 +1,8 @@
 -- Whether a default export has a name is said by the two items behind its beginning.
 use Rattle.std.proofs.Common.{◌≡◌, ℕ, List, [], ◌∷◌, Some, Bool, not, ◌&&◌, refl, sym}
 use Rattle.std.specs.Prelude.{slice_get}
-use Rattle.bundle_tree_piece.specs.Item as h
-use Rattle.bundle_tree_piece.specs.Item.{Item}
+use Rattle.bundle_syntax.specs.Item as h
+use Rattle.bundle_syntax.specs.Item.{Item}
 use Rattle.bundle_rules.specs.Declarations.{is_nameless_default}
 use Rattle.bundle_scope_denote.specs.Walked.{begins_nameless, begins_node_by, is_identifier_by, is_nameless_by}
 

@@ -9,9 +9,9 @@ use Rattle.bundle_rules.specs.Scopes as s
 use Rattle.bundle_rules.specs.Declarations as d
 use Rattle.bundle_rules.specs.Homes as o
 use Rattle.bundle_rules.specs.Denotes as e
-use Rattle.bundle_scope_denote.specs.Numbers.{Numbered}
-use Rattle.bundle_scope_denote.specs.Chains.{scope_at, AreInOrder, IsOnce}
-use Rattle.bundle_scope_denote.specs.Bound.{Key, exactly, IsReadAs, IsTaken, holds_parameters, is_parameter_key}
+use Rattle.bundle_scope_denote.specs.Numbers.{NumberedScope}
+use Rattle.bundle_scope_denote.specs.Chains.{numbered_scope_at, AreInOrder, IsOnce}
+use Rattle.bundle_scope_denote.specs.Bound.{ScopeKey, exactly, IsDeclaredAs, IsKeyTaken, holds_parameters, is_parameter_key}
 use Rattle.bundle_scope_denote.proofs.ZipLemmas.{list_any-zipped}
 use Rattle.bundle_scope_denote.proofs.KeyLemmas.{same_key-at, exactly-Decides}
 use Rattle.bundle_scope_denote.proofs.HomeLemmas.{passes-at}
@@ -37,8 +37,8 @@ list_any-same p q same (x ∷ xs) = ap (λ t. t || list_any p xs) (same x) ∙ a
 abbrev pub is_parameter_exactly : s.Scope → d.Name → d.Declared → Bool
 is_parameter_exactly scope name x = ((o.is_parameters (o.taker x) || o.is_wrapper (o.taker x)) && s.same_scope (o.taker x) scope) && exactly x.name name
 
-pub parameter-by_key : (scopes : List Numbered) (names : List d.Name) → AreInOrder scopes → IsOnce names → (n number : ℕ) (scope : s.Scope) (name : d.Name) → scope_at scopes n ≡ Some scope → slice_get names number ≡ Some name → (keys : List Key) (all : List d.Declared) → AllZip (IsTaken scopes names) keys all → list_any (is_parameter_key scopes (n, number)) keys ≡ list_any (is_parameter_exactly scope name) all
-parameter-by_key scopes names ordered once n number scope name at_n at_number = list_any-zipped (IsTaken scopes names) (is_parameter_key scopes (n, number)) (is_parameter_exactly scope name) (λ key x known. ap₂ (λ (a : Bool) (b : Bool). a && b) (passes-at holds_parameters scopes key.0 (o.taker x) known.scope) (same_key-at scopes names ordered once n number scope name at_n at_number key (o.taker x) x.name known.scope known.name) ∙ regroup (holds_parameters (o.taker x)) (s.same_scope (o.taker x) scope) (exactly x.name name))
+pub parameter-by_key : (scopes : List NumberedScope) (names : List d.Name) → AreInOrder scopes → IsOnce names → (n number : ℕ) (scope : s.Scope) (name : d.Name) → numbered_scope_at scopes n ≡ Some scope → slice_get names number ≡ Some name → (keys : List ScopeKey) (all : List d.Declared) → AllZip (IsKeyTaken scopes names) keys all → list_any (is_parameter_key scopes (n, number)) keys ≡ list_any (is_parameter_exactly scope name) all
+parameter-by_key scopes names ordered once n number scope name at_n at_number = list_any-zipped (IsKeyTaken scopes names) (is_parameter_key scopes (n, number)) (is_parameter_exactly scope name) (λ key x known. ap₂ (λ (a : Bool) (b : Bool). a && b) (passes-at holds_parameters scopes key.0 (o.taker x) known.scope) (same_key-at scopes names ordered once n number scope name at_n at_number key (o.taker x) x.name known.scope known.name) ∙ regroup (holds_parameters (o.taker x)) (s.same_scope (o.taker x) scope) (exactly x.name name))
   where
     regroup : (a b c : Bool) → (a && (b && c)) ≡ ((a && b) && c)
     regroup true b c = refl
@@ -61,7 +61,7 @@ agree-either a b cases = by (bytes_eq a.sym b.sym) a.ctxt b.ctxt cases
         orless false = refl
 
 -- a name that nothing declared has is no parameter's
-pub no-parameter : (scope : s.Scope) (names : List d.Name) (name : d.Name) → ((number : ℕ) → slice_get names number ≡ Some name → ⊥) → (scopes : List Numbered) (keys : List Key) (all : List d.Declared) → AllZip (IsTaken scopes names) keys all → list_any (is_parameter_exactly scope name) all ≡ false
+pub no-parameter : (scope : s.Scope) (names : List d.Name) (name : d.Name) → ((number : ℕ) → slice_get names number ≡ Some name → ⊥) → (scopes : List NumberedScope) (keys : List ScopeKey) (all : List d.Declared) → AllZip (IsKeyTaken scopes names) keys all → list_any (is_parameter_exactly scope name) all ≡ false
 no-parameter scope names name absent scopes [] [] all_known = refl
 no-parameter scope names name absent scopes [] (x ∷ xs) all_known = absurd all_known
 no-parameter scope names name absent scopes (k ∷ ks) [] all_known = absurd all_known
@@ -77,7 +77,7 @@ no-parameter scope names name absent scopes (k ∷ ks) (x ∷ xs) all_known = or
     fails false is = shut (o.is_parameters (o.taker x) || o.is_wrapper (o.taker x)) (s.same_scope (o.taker x) scope)
 
 -- the two tests together are the definition's, for a name that joins parameters
-pub parameter-either : (reading : d.Reading) (scope : s.Scope) (joining : d.Declared) → IsReadAs reading joining → o.joins_parameter joining.by ≡ true → (some : List d.Declared) → Each (IsReadAs reading) some → (list_any (is_parameter_exactly scope joining.name) some || list_any (is_parameter_exactly scope (e.without_context joining.name)) some) ≡ list_any (o.is_parameter scope joining.name) some
+pub parameter-either : (reading : d.Reading) (scope : s.Scope) (joining : d.Declared) → IsDeclaredAs reading joining → o.joins_parameter joining.by ≡ true → (some : List d.Declared) → Each (IsDeclaredAs reading) some → (list_any (is_parameter_exactly scope joining.name) some || list_any (is_parameter_exactly scope (e.without_context joining.name)) some) ≡ list_any (o.is_parameter scope joining.name) some
 parameter-either reading scope joining read joins [] each = refl
 parameter-either reading scope joining read joins (x ∷ xs) each =
     shuffled (is_parameter_exactly scope joining.name x) (is_parameter_exactly scope (e.without_context joining.name) x) (list_any (is_parameter_exactly scope joining.name) xs) (list_any (is_parameter_exactly scope (e.without_context joining.name)) xs) ∙ ap₂ (λ (a : Bool) (b : Bool). a || b) (here (o.is_parameters (o.taker x) || o.is_wrapper (o.taker x)) (s.same_scope (o.taker x) scope)) (parameter-either reading scope joining read joins xs each.1)
@@ -88,7 +88,7 @@ parameter-either reading scope joining read joins (x ∷ xs) each =
     shuffled false true false f = refl
     shuffled false false c f = refl
 
-    cases : (reading : d.Reading) → IsReadAs reading joining → IsReadAs reading x → (is_some joining.name.ctxt ≡ true) ⊎ ((x.name.ctxt ≡ None) × (joining.name.ctxt ≡ None))
+    cases : (reading : d.Reading) → IsDeclaredAs reading joining → IsDeclaredAs reading x → (is_some joining.name.ctxt ≡ true) ⊎ ((x.name.ctxt ≡ None) × (joining.name.ctxt ≡ None))
     cases d.BySymbol own other = inr (other, own)
     cases d.ByContext own other = inl (own joins)
 

@@ -6,7 +6,7 @@ use Rattle.std.proofs.lemmas.Option.{same_Some, slice_get_within}
 use Rattle.bundle_scope_denote.specs.declared.doubled.Times.{Times}
 use Rattle.bundle_scope_denote.specs.declared.doubled.Times.TheVariants.{Never, Once, Often}
 use Rattle.bundle_scope_denote.specs.declared.walk.Declaration.{Declaration}
-use Rattle.bundle_scope_denote.specs.Barred.{counted, is_often_by, is_often, AreCounted}
+use Rattle.bundle_scope_denote.specs.Barred.{times_counted, is_often_by, is_often, AreCounted}
 
 -- whether a name was declared, or it is not known
 abbrev pub is_met_by : Option Times → Bool
@@ -25,9 +25,9 @@ pub record CountedTo (declarations : List Declaration) (k : ℕ) (times : List T
 
 -- how a name's count changes as one declaration more is counted
 abbrev pub Counts : (name : ℕ) → (old new : List Times) → Type 0
-Counts name old new = (number : ℕ) → slice_get new number ≡ option_map (counted (name == number)) (slice_get old number)
+Counts name old new = (number : ℕ) → slice_get new number ≡ option_map (times_counted (name == number)) (slice_get old number)
 
-met-stays : (c : Bool) (o : Option Times) → is_met_by o ≡ true → is_met_by (option_map (counted c) o) ≡ true
+met-stays : (c : Bool) (o : Option Times) → is_met_by o ≡ true → is_met_by (option_map (times_counted c) o) ≡ true
 met-stays c None is = refl
 met-stays c (Some Never) is = absurd (false≢true is)
 met-stays true (Some Once) is = refl
@@ -35,20 +35,20 @@ met-stays false (Some Once) is = refl
 met-stays true (Some Often) is = refl
 met-stays false (Some Often) is = refl
 
-met-now : (o : Option Times) → is_met_by (option_map (counted true) o) ≡ true
+met-now : (o : Option Times) → is_met_by (option_map (times_counted true) o) ≡ true
 met-now None = refl
 met-now (Some Never) = refl
 met-now (Some Once) = refl
 met-now (Some Often) = refl
 
-often-stays : (c : Bool) (o : Option Times) → is_often_by o ≡ true → is_often_by (option_map (counted c) o) ≡ true
+often-stays : (c : Bool) (o : Option Times) → is_often_by o ≡ true → is_often_by (option_map (times_counted c) o) ≡ true
 often-stays c None is = refl
 often-stays c (Some Never) is = absurd (false≢true is)
 often-stays c (Some Once) is = absurd (false≢true is)
 often-stays true (Some Often) is = refl
 often-stays false (Some Often) is = refl
 
-often-now : (o : Option Times) → is_met_by o ≡ true → is_often_by (option_map (counted true) o) ≡ true
+often-now : (o : Option Times) → is_met_by o ≡ true → is_often_by (option_map (times_counted true) o) ≡ true
 often-now None is = refl
 often-now (Some Never) is = absurd (false≢true is)
 often-now (Some Once) is = refl
@@ -67,8 +67,8 @@ counted-next declarations k d old new at_k counts known = record {
 }
   where
     -- its own name is counted
-    now : (a : Declaration) → d ≡ a → slice_get new a.name ≡ option_map (counted true) (slice_get old a.name)
-    now a same = counts a.name ∙ ap (λ c. option_map (counted c) (slice_get old a.name)) (eq-eqb d.name a.name (ap (λ (x : Declaration). x.name) same))
+    now : (a : Declaration) → d ≡ a → slice_get new a.name ≡ option_map (times_counted true) (slice_get old a.name)
+    now a same = counts a.name ∙ ap (λ c. option_map (times_counted c) (slice_get old a.name)) (eq-eqb d.name a.name (ap (λ (x : Declaration). x.name) same))
 
 pub counted-whole : (declarations : List Declaration) (k : ℕ) (times : List Times) → length declarations ≤ k → CountedTo declarations k times → AreCounted declarations times
 counted-whole declarations k times past known i j a b before at_i at_j same = let within : j < length declarations = slice_get_within declarations j b at_j in

@@ -1,7 +1,7 @@
 -- Which declarations may not stand beside those that were met.
 use Rattle.std.specs.Prelude.{◌≡◌, ℕ, Bool as Truth, true, false, cond, not, ◌&&◌, ◌<◌, List, [], ◌∷◌, Option, Some, None, length, option_map, unwrap_or, slice_get, take, take_while}
 use Rattle.std.specs.List.{list_any}
-use Rattle.bundle_tree_piece.specs.Item.{Item}
+use Rattle.bundle_syntax.specs.Item.{Item}
 use Rattle.bundle_rules.specs.Scopes as s
 use Rattle.bundle_rules.specs.Declarations as d
 use Rattle.bundle_rules.specs.Homes as o
@@ -9,18 +9,18 @@ use Rattle.bundle_rules.specs.Doubled as u
 use Rattle.bundle_scope_denote.specs.declared.table.Doubled.{Doubled}
 use Rattle.bundle_scope_denote.specs.declared.table.Way.{Way}
 use Rattle.bundle_scope_denote.specs.declared.walk.Declaration.{Declaration}
-use Rattle.bundle_scope_denote.specs.declared.walk.Walk.{Walk}
+use Rattle.bundle_scope_denote.specs.declared.walk.ScopeWalk.{ScopeWalk}
 use Rattle.bundle_scope_denote.specs.declared.doubled.Met.{Met}
 use Rattle.bundle_scope_denote.specs.declared.doubled.Times.{Times}
 use Rattle.bundle_scope_denote.specs.declared.doubled.Times.TheVariants.{Never, Once, Often}
 use Rattle.bundle_scope_denote.specs.declared.doubled.Reach.{Reach}
 use Rattle.bundle_scope_denote.specs.Kinds.{way_named, takes_by}
-use Rattle.bundle_scope_denote.specs.Numbers.{Numbered, AreAround}
-use Rattle.bundle_scope_denote.specs.Chains.{scope_at, passes, outwards, AreScopesAt}
-use Rattle.bundle_scope_denote.specs.Bound.{Key, same_key}
+use Rattle.bundle_scope_denote.specs.Numbers.{NumberedScope, AreAround}
+use Rattle.bundle_scope_denote.specs.Chains.{numbered_scope_at, passes, scopes_outwards, AreScopesAt}
+use Rattle.bundle_scope_denote.specs.Bound.{ScopeKey, same_key}
 use Rattle.bundle_scope_denote.specs.Walked.{IsDeclared}
-use Rattle.bundle_scope_denote.specs.Steps.{scopes_of, names_of, IsWhole}
-use Rattle.bundle_scope_denote.specs.Listed.{told_of, place_and_symbol}
+use Rattle.bundle_scope_denote.specs.Steps.{scopes_of, walk_names, IsWholeWalk}
+use Rattle.bundle_scope_denote.specs.Listed.{doubled_told, place_and_symbol}
 
 -- the first of these scopes and the one beside it, if a name that is declared there in this way stands there once
 abbrev pub held_in : d.Way → List s.Scope → List s.Scope
@@ -35,16 +35,18 @@ abbrev pub barred_by : d.Declared → List s.Scope
 barred_by x = cond (u.is_var x.by) (passed x) (held_in x.by (o.from_taker x.by x.scopes))
 
 -- the first of these numbers, of scopes that do not take a name declared in this way
-abbrev pub passed_of : List Numbered → Way → List ℕ → List ℕ
+abbrev pub passed_of : List NumberedScope → Way → List ℕ → List ℕ
 passed_of scopes way numbers = take_while (λ number. not (passes (takes_by way) scopes number)) numbers
 
 -- the numbers of the scopes that a name passes, from one on outwards
-abbrev pub passed_at : List Numbered → Way → ℕ → List ℕ
-passed_at scopes way from = passed_of scopes way (outwards scopes (length scopes) (Some from))
+abbrev pub passed_at : List NumberedScope → Way → ℕ → List ℕ
+passed_at scopes way from =
+    passed_of scopes way (scopes_outwards scopes (length scopes) (Some from))
 
 -- these are the numbers of what is held in the scopes from a taker on
-abbrev pub Holds : List Numbered → (top : ℕ) → Way → (taker : Option ℕ) → List ℕ → Type 0
-Holds scopes top way taker held = (kind : s.ModuleKind) (by : d.Way) (around : List s.Scope) → AreAround scopes (Some top) (s.outermost kind) → way ≡ way_named by → AreAround scopes taker around → AreScopesAt scopes held (held_in by around)
+abbrev pub HoldsNumbered : List NumberedScope → (top : ℕ) → Way → (taker : Option ℕ) → List ℕ →
+    Type 0
+HoldsNumbered scopes top way taker held = (kind : s.ModuleKind) (by : d.Way) (around : List s.Scope) → AreAround scopes (Some top) (s.outermost kind) → way ≡ way_named by → AreAround scopes taker around → AreScopesAt scopes held (held_in by around)
 
 -- whether the first of these scopes is that of the parameters of a CommonJS module
 abbrev pub begins_wrapped : List s.Scope → Truth
@@ -52,20 +54,20 @@ begins_wrapped (s.Wrapper ∷ outer) = true
 begins_wrapped _ = false
 
 -- the numbers of the scopes that a declaration reaches: the one that takes its name, and those that it bars
-pub record IsReachOf (scopes : List Numbered) (reach : Reach) (x : d.Declared) : Type 0 where
-  pub taker : scope_at scopes reach.taker ≡ Some (o.taker x)
+pub record IsReachOf (scopes : List NumberedScope) (reach : Reach) (x : d.Declared) : Type 0 where
+  pub taker : numbered_scope_at scopes reach.taker ≡ Some (o.taker x)
   pub barred : AreScopesAt scopes reach.barred.items (barred_by x)
 
 -- a declaration of a whole walk reaches so far
-abbrev pub Reaches : Walk → Declaration → Reach → Type 0
-Reaches walk declaration reach = (reading : d.Reading) (kind : s.ModuleKind) (items : List Item) (x : d.Declared) → IsWhole walk reading kind items → IsDeclared (scopes_of walk) (names_of walk) declaration x → IsReachOf (scopes_of walk) reach x
+abbrev pub ReachesSoFar : ScopeWalk → Declaration → Reach → Type 0
+ReachesSoFar walk declaration reach = (reading : d.Reading) (kind : s.ModuleKind) (items : List Item) (x : d.Declared) → IsWholeWalk walk reading kind items → IsDeclared (scopes_of walk) (walk_names walk) declaration x → IsReachOf (scopes_of walk) reach x
 
 -- whether one of the scopes has the name among these keys
-abbrev pub has_any : List Key → (name : ℕ) → List ℕ → Truth
+abbrev pub has_any : List ScopeKey → (name : ℕ) → List ℕ → Truth
 has_any keys name scopes = list_any (λ scope. list_any (same_key (scope, name)) keys) scopes
 
 -- whether a key is that of the name in one of the scopes
-abbrev pub is_key_in : Key → (name : ℕ) → List ℕ → Truth
+abbrev pub is_key_in : ScopeKey → (name : ℕ) → List ℕ → Truth
 is_key_in key name scopes = list_any (λ scope. same_key key (scope, name)) scopes
 
 -- whether the declaration is taken in the scope by this name
@@ -82,9 +84,9 @@ once_more Never = Once
 once_more Once = Often
 once_more Often = Often
 
-abbrev pub counted : Truth → Times → Times
-counted true times = once_more times
-counted false times = times
+abbrev pub times_counted : Truth → Times → Times
+times_counted true times = once_more times
+times_counted false times = times
 
 -- whether a name is declared more than once, or it is not known how often
 abbrev pub is_often_by : Option Times → Truth
@@ -101,24 +103,25 @@ abbrev pub AreCounted : List Declaration → List Times → Type 0
 AreCounted declarations times = (i j : ℕ) (a b : Declaration) → i < j → slice_get declarations i ≡ Some a → slice_get declarations j ≡ Some b → a.name ≡ b.name → is_often times b.name ≡ true
 
 -- the keys tell a test of scopes and names that have no context and are declared more than once
-abbrev pub KeysTell : List Numbered → List d.Name → (often : ℕ → Truth) → List Key → (s.Scope → d.Name → Truth) → Type 0
-KeysTell scopes names often keys test = (n number : ℕ) (scope : s.Scope) (name : d.Name) → scope_at scopes n ≡ Some scope → slice_get names number ≡ Some name → name.ctxt ≡ None → often number ≡ true → list_any (same_key (n, number)) keys ≡ test scope name
+abbrev pub KeysTell : List NumberedScope → List d.Name → (often : ℕ → Truth) → List ScopeKey → (s.Scope → d.Name → Truth) → Type 0
+KeysTell scopes names often keys test = (n number : ℕ) (scope : s.Scope) (name : d.Name) → numbered_scope_at scopes n ≡ Some scope → slice_get names number ≡ Some name → name.ctxt ≡ None → often number ≡ true → list_any (same_key (n, number)) keys ≡ test scope name
 
 -- what was met is these declarations
-pub record HasMet (scopes : List Numbered) (names : List d.Name) (often : ℕ → Truth) (before : List d.Declared) (met : Met) : Type 0 where
+pub record HasMet (scopes : List NumberedScope) (names : List d.Name) (often : ℕ → Truth) (before : List d.Declared) (met : Met) : Type 0 where
   pub taken : KeysTell scopes names often met.taken.keys (λ scope name. list_any (is_taken_in scope name) before)
   pub barred : KeysTell scopes names often met.barred.keys (λ scope name. list_any (is_barred_in scope name) before)
 
 -- the first declarations were met, and none of them is doubled
-pub record HasMetFirst (walk : Walk) (often : ℕ → Truth) (all : List d.Declared) (number : ℕ) (met : Met) : Type 0 where
-  pub before : HasMet (scopes_of walk) (names_of walk) often (take number all) met
+pub record HasMetFirst (walk : ScopeWalk) (often : ℕ → Truth) (all : List d.Declared) (number : ℕ) (met : Met) : Type 0 where
+  pub before : HasMet (scopes_of walk) (walk_names walk) often (take number all) met
   pub undoubled : list_any (u.is_doubled all) (take number all) ≡ false
 
 -- what is told has the place and the symbol of a declaration that was met
-pub record IsToldOf (walk : Walk) (declaration : Declaration) (doubled : Doubled) : Type 0 where
+pub record IsDoubledTold (walk : ScopeWalk) (declaration : Declaration)
+    (doubled : Doubled) : Type 0 where
   pub place : doubled.place ≡ declaration.place
-  pub symbol : option_map (λ (name : d.Name). name.sym) (slice_get (names_of walk) declaration.name) ≡ Some doubled.name.now
+  pub symbol : option_map (λ (name : d.Name). name.sym) (slice_get (walk_names walk) declaration.name) ≡ Some doubled.name.now
 
 -- what is told is the first declaration that is doubled, of a list whose walk this is
-abbrev pub TellsFirst : Walk → Option Doubled → Type 0
-TellsFirst walk found = (kind : s.ModuleKind) (items : List Item) → IsWhole walk d.BySymbol kind items → option_map told_of found ≡ option_map place_and_symbol (u.first_doubled kind items)
+abbrev pub TellsFirstDoubled : ScopeWalk → Option Doubled → Type 0
+TellsFirstDoubled walk found = (kind : s.ModuleKind) (items : List Item) → IsWholeWalk walk d.BySymbol kind items → option_map doubled_told found ≡ option_map place_and_symbol (u.first_doubled kind items)

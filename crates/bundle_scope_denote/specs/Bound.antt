@@ -6,24 +6,24 @@ use Rattle.bundle_rules.specs.Scopes as s
 use Rattle.bundle_rules.specs.Declarations as d
 use Rattle.bundle_rules.specs.Homes as o
 use Rattle.bundle_rules.specs.Denotes as e
-use Rattle.bundle_scope_denote.specs.Numbers.{Numbered}
-use Rattle.bundle_scope_denote.specs.Chains.{scope_at, outer_at, passes}
+use Rattle.bundle_scope_denote.specs.Numbers.{NumberedScope}
+use Rattle.bundle_scope_denote.specs.Chains.{numbered_scope_at, outer_at, passes}
 
 -- the number of a scope and that of a name there
-abbrev pub Key : Type 0
-Key = ℕ × ℕ
+abbrev pub ScopeKey : Type 0
+ScopeKey = ℕ × ℕ
 
-abbrev pub same_key : Key → Key → Truth
+abbrev pub same_key : ScopeKey → ScopeKey → Truth
 same_key a b = a.0 == b.0 && a.1 == b.1
 
 -- how names are read shows in a declaration: by symbol no context is read, and by context that of each `var` and function is
-abbrev pub IsReadAs : d.Reading → d.Declared → Type 0
-IsReadAs d.BySymbol declared = declared.name.ctxt ≡ None
-IsReadAs d.ByContext declared = o.joins_parameter declared.by ≡ true → is_some declared.name.ctxt ≡ true
+abbrev pub IsDeclaredAs : d.Reading → d.Declared → Type 0
+IsDeclaredAs d.BySymbol declared = declared.name.ctxt ≡ None
+IsDeclaredAs d.ByContext declared = o.joins_parameter declared.by ≡ true → is_some declared.name.ctxt ≡ true
 
 -- a key is that of the binding to which a declaration belongs
-pub record IsHome (scopes : List Numbered) (names : List d.Name) (all : List d.Declared) (key : Key) (declared : d.Declared) : Type 0 where
-  pub scope : scope_at scopes key.0 ≡ Some (o.home_of all declared)
+pub record IsHome (scopes : List NumberedScope) (names : List d.Name) (all : List d.Declared) (key : ScopeKey) (declared : d.Declared) : Type 0 where
+  pub scope : numbered_scope_at scopes key.0 ≡ Some (o.home_of all declared)
   pub name : slice_get names key.1 ≡ Some declared.name
 
 -- whether names have one symbol and one context
@@ -46,9 +46,9 @@ declares_in d.BySymbol all scope name declared = o.is_declared_in all scope name
 declares_in d.ByContext all scope name declared = e.has_identifier declared && o.is_declared_in all scope name declared
 
 -- whether the scope binds the name: by context, for an identifier
-abbrev pub told : d.Reading → List d.Declared → s.Scope → d.Name → Truth
-told d.BySymbol all scope name = o.binds all scope name
-told d.ByContext all scope name = e.is_written_in all scope name
+abbrev pub is_name_bound : d.Reading → List d.Declared → s.Scope → d.Name → Truth
+is_name_bound d.BySymbol all scope name = o.binds all scope name
+is_name_bound d.ByContext all scope name = e.is_written_in all scope name
 
 -- whether a scope is a body that has parameters beside it
 abbrev pub has_parameters : s.Scope → Truth
@@ -62,7 +62,7 @@ joins_outer (s.Inner s.CatchBlock begins) = true
 joins_outer scope = has_parameters scope
 
 -- the number of the scope of the parameters of the function of which a scope is the body
-abbrev pub beside_at : List Numbered → ℕ → Option ℕ
+abbrev pub beside_at : List NumberedScope → ℕ → Option ℕ
 beside_at scopes body = cond (passes has_parameters scopes body) (outer_at scopes body) None
 
 -- the scope beside, if it has the parameter, and else the body
@@ -71,7 +71,7 @@ beside_or is_parameter body None = body
 beside_or is_parameter body (Some beside) = cond (is_parameter beside) beside body
 
 -- the number of the scope to which a name belongs that this scope takes
-abbrev pub home_from : List Numbered → (top : ℕ) → (joins : Truth) → (ℕ → Truth) → Option ℕ → ℕ
+abbrev pub home_from : List NumberedScope → (top : ℕ) → (joins : Truth) → (ℕ → Truth) → Option ℕ → ℕ
 home_from scopes top joins is_parameter None = top
 home_from scopes top joins is_parameter (Some taker) = cond joins (beside_or is_parameter taker (beside_at scopes taker)) taker
 
@@ -80,16 +80,16 @@ abbrev pub holds_parameters : s.Scope → Truth
 holds_parameters scope = o.is_parameters scope || o.is_wrapper scope
 
 -- whether the declaration of a name that this scope takes is that of a parameter with this key
-abbrev pub is_parameter_key : List Numbered → Key → Key → Truth
+abbrev pub is_parameter_key : List NumberedScope → ScopeKey → ScopeKey → Truth
 is_parameter_key scopes key taken = passes holds_parameters scopes taken.0 && same_key key taken
 
 -- a key is that of the scope that takes a declared name
-pub record IsTaken (scopes : List Numbered) (names : List d.Name) (key : Key) (declared : d.Declared) : Type 0 where
-  pub scope : scope_at scopes key.0 ≡ Some (o.taker declared)
+pub record IsKeyTaken (scopes : List NumberedScope) (names : List d.Name) (key : ScopeKey) (declared : d.Declared) : Type 0 where
+  pub scope : numbered_scope_at scopes key.0 ≡ Some (o.taker declared)
   pub name : slice_get names key.1 ≡ Some declared.name
 
 -- the keys once one is put, which goes last if it was not there
-abbrev pub put_key : List Key → Key → List Key
+abbrev pub put_key : List ScopeKey → ScopeKey → List ScopeKey
 put_key keys key = if list_any (same_key key) keys then keys else keys ++ key ∷ []
 
 -- the name of this symbol without a context
@@ -102,30 +102,32 @@ is_written_name symbol None = false
 is_written_name symbol (Some name) = is_some name.ctxt && bytes_eq name.sym symbol
 
 -- whether a key is of the scope with this number and of such a name
-abbrev pub is_written_key : List d.Name → ℕ → List ℕ → Key → Truth
+abbrev pub is_written_key : List d.Name → ℕ → List ℕ → ScopeKey → Truth
 is_written_key names scope symbol key = scope == key.0 && is_written_name symbol (slice_get names key.1)
 
 -- whether the scope with a number has the name with a number among these keys, or is that of a function which binds it
-abbrev pub binds_at : List Numbered → List Key → (adds : Truth) → ℕ → ℕ → Truth
+abbrev pub binds_at : List NumberedScope → List ScopeKey → (adds : Truth) → ℕ → ℕ → Truth
 binds_at scopes keys adds name scope = list_any (same_key (scope, name)) keys || (adds && passes o.is_function scopes scope)
 
 -- the keys tell what each scope binds
-abbrev pub TellsBound : d.Reading → List Numbered → List d.Name → List d.Declared → List Key → Type 0
-TellsBound reading scopes names all keys = (n number : ℕ) (scope : s.Scope) (name : d.Name) → scope_at scopes n ≡ Some scope → slice_get names number ≡ Some name → reads reading name ≡ true → binds_at scopes keys (adds reading name) number n ≡ told reading all scope name
+abbrev pub TellsBound : d.Reading → List NumberedScope → List d.Name → List d.Declared → List ScopeKey → Type 0
+TellsBound reading scopes names all keys = (n number : ℕ) (scope : s.Scope) (name : d.Name) → numbered_scope_at scopes n ≡ Some scope → slice_get names number ≡ Some name → reads reading name ≡ true → binds_at scopes keys (adds reading name) number n ≡ is_name_bound reading all scope name
 
 -- and these what is implied there
-abbrev pub TellsImplied : List Numbered → List d.Name → List d.Declared → List Key → Type 0
-TellsImplied scopes names all implied = (n number : ℕ) (scope : s.Scope) (name : d.Name) → scope_at scopes n ≡ Some scope → slice_get names number ≡ Some (alone name.sym) → binds_at scopes implied (o.is_arguments name.sym) number n ≡ e.is_implied_in all scope name
+abbrev pub TellsImplied : List NumberedScope → List d.Name → List d.Declared → List ScopeKey →
+    Type 0
+TellsImplied scopes names all implied = (n number : ℕ) (scope : s.Scope) (name : d.Name) → numbered_scope_at scopes n ≡ Some scope → slice_get names number ≡ Some (alone name.sym) → binds_at scopes implied (o.is_arguments name.sym) number n ≡ e.is_implied_in all scope name
 
 -- the number of a binding says what is denoted
-abbrev pub Says : List Numbered → List d.Name → List Key → Option ℕ → e.Denoted → Type 0
-Says scopes names keys None (e.Global sym) = Unit {0}
-Says scopes names keys None (e.Bound scope name) = ⊥
-Says scopes names keys (Some number) (e.Global sym) = ⊥
-Says scopes names keys (Some number) (e.Bound scope name) = (key : Key) × (slice_get keys number ≡ Some key) × (scope_at scopes key.0 ≡ Some scope) × (slice_get names key.1 ≡ Some name)
+abbrev pub SaysDenoted : List NumberedScope → List d.Name → List ScopeKey → Option ℕ → e.Denoted →
+    Type 0
+SaysDenoted scopes names keys None (e.Global sym) = Unit {0}
+SaysDenoted scopes names keys None (e.Bound scope name) = ⊥
+SaysDenoted scopes names keys (Some number) (e.Global sym) = ⊥
+SaysDenoted scopes names keys (Some number) (e.Bound scope name) = (key : ScopeKey) × (slice_get keys number ≡ Some key) × (numbered_scope_at scopes key.0 ≡ Some scope) × (slice_get names key.1 ≡ Some name)
 
 -- the number of a name in a scope that was found
-abbrev pub NumberOf : List Key → (name : ℕ) → Option ℕ → Option ℕ → Type 0
+abbrev pub NumberOf : List ScopeKey → (name : ℕ) → Option ℕ → Option ℕ → Type 0
 NumberOf keys name None None = Unit {0}
 NumberOf keys name None (Some number) = ⊥
 NumberOf keys name (Some scope) None = ⊥

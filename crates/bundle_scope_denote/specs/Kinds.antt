@@ -1,10 +1,10 @@
 -- What the kinds of scopes and the ways of the code stand for, and what a node means for the names in it, by what the code
 -- knows of the nodes around it.
 use Rattle.std.specs.Prelude.{ℕ, ◌==◌, Bool as Truth, true, false, cond, Option, Some, None}
-use Rattle.bundle_tree_leaf.specs.declared.kind.VarDeclKind.{VarDeclKind}
-use Rattle.bundle_tree_leaf.specs.declared.kind.VarDeclKind.TheVariants as v
-use Rattle.bundle_tree_piece.specs.Item as h
-use Rattle.bundle_tree_piece.specs.Item.{Head}
+use Rattle.bundle_syntax.specs.declared.kind.VarDeclKind.{VarDeclKind}
+use Rattle.bundle_syntax.specs.declared.kind.VarDeclKind.TheVariants as v
+use Rattle.bundle_syntax.specs.Item as h
+use Rattle.bundle_syntax.specs.Item.{Head}
 use Rattle.bundle_rules.specs.Scopes as s
 use Rattle.bundle_rules.specs.Declarations as d
 use Rattle.bundle_rules.specs.Homes as o
@@ -72,31 +72,31 @@ way_named d.ByClassName = w.ClassName
 way_named d.ByWrapper = w.Wrapper
 
 -- how `var`, `let` and `const` declare, in the head of a loop or elsewhere
-abbrev pub way_of_kind : VarDeclKind → (heads_loop : Truth) → Way
-way_of_kind v.Var heads_loop = w.Var
-way_of_kind v.Let heads_loop = cond heads_loop w.Loop w.Let
-way_of_kind v.Const heads_loop = cond heads_loop w.Loop w.Const
+abbrev pub kind_way : VarDeclKind → (heads_loop : Truth) → Way
+kind_way v.Var heads_loop = w.Var
+kind_way v.Let heads_loop = cond heads_loop w.Loop w.Let
+kind_way v.Const heads_loop = cond heads_loop w.Loop w.Const
 
 -- how a node declares the names of the declarators in it
-abbrev pub way_of_variable : Head → (heads_loop : Truth) → Option Way
-way_of_variable (h.VarDecl kind meta) heads_loop = Some (way_of_kind kind heads_loop)
-way_of_variable _ heads_loop = None
+abbrev pub variable_way : Head → (heads_loop : Truth) → Option Way
+variable_way (h.VarDecl kind meta) heads_loop = Some (kind_way kind heads_loop)
+variable_way _ heads_loop = None
 
 -- how a node declares a name that stands in it, if a declarator there declares by `variable`
-abbrev pub way_in : Head → (variable : Option Way) → (is_default : Truth) → Option Way
-way_in h.ImportNamedSpecifier variable is_default = Some w.Import
-way_in h.ImportDefaultSpecifier variable is_default = Some w.Import
-way_in h.ImportStarAsSpecifier variable is_default = Some w.Import
-way_in h.VarDeclarator variable is_default = variable
-way_in h.FnDecl variable is_default = Some w.Function
-way_in h.ClassDecl variable is_default = Some w.Class
-way_in h.FnExpr variable is_default = Some (cond is_default w.Function w.FunctionName)
-way_in h.ClassExpr variable is_default = Some (cond is_default w.Class w.ClassName)
-way_in h.Param variable is_default = Some w.Parameter
-way_in (h.ArrowExpr is_async) variable is_default = Some w.Parameter
-way_in h.SetterProp variable is_default = Some w.Parameter
-way_in h.CatchClause variable is_default = Some w.Catch
-way_in _ variable is_default = None
+abbrev pub head_way_in : Head → (variable : Option Way) → (is_default : Truth) → Option Way
+head_way_in h.ImportNamedSpecifier variable is_default = Some w.Import
+head_way_in h.ImportDefaultSpecifier variable is_default = Some w.Import
+head_way_in h.ImportStarAsSpecifier variable is_default = Some w.Import
+head_way_in h.VarDeclarator variable is_default = variable
+head_way_in h.FnDecl variable is_default = Some w.Function
+head_way_in h.ClassDecl variable is_default = Some w.Class
+head_way_in h.FnExpr variable is_default = Some (cond is_default w.Function w.FunctionName)
+head_way_in h.ClassExpr variable is_default = Some (cond is_default w.Class w.ClassName)
+head_way_in h.Param variable is_default = Some w.Parameter
+head_way_in (h.ArrowExpr is_async) variable is_default = Some w.Parameter
+head_way_in h.SetterProp variable is_default = Some w.Parameter
+head_way_in h.CatchClause variable is_default = Some w.Catch
+head_way_in _ variable is_default = None
 
 -- which scope a node makes, if as a block it makes that of the kind `own_kind`
 abbrev pub kind_made : Head → (own_kind : ScopeKind) → (is_default : Truth) → Option ScopeKind
@@ -151,9 +151,9 @@ is_quiet h.StaticBlock = false
 is_quiet _ = true
 
 -- whether a field is this one
-abbrev pub is_field : Option ℕ → ℕ → Truth
-is_field None field = false
-is_field (Some own) field = field == own
+abbrev pub is_in_field : Option ℕ → ℕ → Truth
+is_in_field None field = false
+is_in_field (Some own) field = field == own
 
 -- whether a name that is declared in this way belongs to the scope, if it is the nearest such one
 abbrev pub takes_by : Way → s.Scope → Truth

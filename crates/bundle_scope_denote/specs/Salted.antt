@@ -2,17 +2,17 @@
 use Rattle.std.specs.Prelude.{ℕ, List, [], ◌∷◌, ◌++◌}
 use Rattle.std.specs.List.{flat_map}
 use Rattle.std.specs.Hash.DefaultHasher as sip
-use Rattle.bundle_tree_piece.specs.Item.{Item, Ident}
+use Rattle.bundle_syntax.specs.Item.{Item, Ident}
 use Rattle.bundle_scope_denote.specs.declared.salt.Salt.{Salt}
 
 -- the symbol of an identifier, and the byte 255, which stands in no text
-abbrev pub told : Item → List ℕ
-told (Ident field sym ctxt role) = sym ++ 255 ∷ []
-told item = []
+abbrev pub salt_bytes : Item → List ℕ
+salt_bytes (Ident field sym ctxt role) = sym ++ 255 ∷ []
+salt_bytes item = []
 
 -- the symbols of all identifiers, so that each list of symbols has a message of its own
 abbrev pub message_of : List Item → List ℕ
-message_of items = flat_map told items
+message_of items = flat_map salt_bytes items
 
 -- the salt whose hashers begin with a digest
 abbrev pub salted : List ℕ → Salt

@@ -2,28 +2,28 @@
 
 ghost use Rattle.std.specs.Prelude.{◌≡◌, ◌<◌, ◌||◌, ◌&&◌, IfOk, List, OnOk, Some, false, length, map, slice_get};
 ghost use Rattle.std.specs.List.{list_any};
-ghost use Rattle.bundle_tree_piece.specs.Item.{Item, item_of};
+ghost use Rattle.bundle_syntax.specs.Item.{Item, item_of};
 ghost use Rattle.bundle_rules.specs.Scopes as Scopes;
 ghost use Rattle.bundle_rules.specs.Declarations.{ByContext, BySymbol};
 ghost use Rattle.bundle_rules.specs.Denotes as denotes;
 ghost use Rattle.bundle_rules.specs.Homes as Homes;
 ghost use Rattle.bundle_scope_denote.specs.Kinds.{kind_as, reading_as};
-ghost use Rattle.bundle_scope_denote.specs.Numbers.{name_as, numbered};
+ghost use Rattle.bundle_scope_denote.specs.Numbers.{name_as, numbered_scope};
 ghost use Rattle.bundle_scope_denote.specs.Chains.{nearest_at, passes};
 ghost use Rattle.bundle_scope_denote.specs.Bound as bound;
-ghost use Rattle.bundle_scope_denote.specs.Bound.{Key, same_key};
-ghost use Rattle.bundle_scope_denote.specs.Ready.{AreNamed, AreSeenNamed, HasArguments, HoldsImplied, is_implied_key};
+ghost use Rattle.bundle_scope_denote.specs.Bound.{ScopeKey, same_key};
+ghost use Rattle.bundle_scope_denote.specs.Ready.{AreDeclarationsNumbered, AreSeenNamed, HasArguments, HoldsImplied, is_implied_key};
 ghost use Rattle.bundle_scope_denote.specs.Searched.{Denotes, DenotesSeen, MakesTable, Puts, Searches};
-ghost use Rattle.bundle_scope_denote.specs.Listed.{IsTable};
-ghost use Rattle.bundle_scope_denote.specs.Steps.{IsBlank, IsWhole, Stays};
+ghost use Rattle.bundle_scope_denote.specs.Listed.{IsDenotationTable};
+ghost use Rattle.bundle_scope_denote.specs.Steps.{IsBlank, IsWholeWalk, StaysInWalk};
 
 use crate::homes::{Bindings, Keys, alone_of, homes_of, outer_at, scope_at};
 use crate::kinds::is_function;
 use crate::mixed::Mixed;
 use crate::salt::salt_of;
 use crate::table::{Binding, Denotations, Denoted, ModuleKind, Reading, Scope};
-use crate::walk::{Name, Occurrence, Walk, number_of};
-use bundle_tree_piece::Piece;
+use crate::walk::{NameKey, NameOccurrence, ScopeWalk, number_of};
+use bundle_syntax::Piece;
 use indexmap::IndexSet;
 use std::alloc::{AllocError, Global};
 
@@ -35,22 +35,22 @@ pub fn denotations<'a>(
     kind: ModuleKind,
     reading: Reading,
 ) -> Result<Denotations<'a>, AllocError>
-    ensures { IfOk result (IsTable (reading_as reading) (kind_as kind) (map item_of pieces.now)) }
+    ensures { IfOk result (IsDenotationTable (reading_as reading) (kind_as kind) (map item_of pieces.now)) }
 {
-    let mut walk = Walk::new(alloc, kind, reading, salt_of(pieces));
+    let mut walk = ScopeWalk::new(alloc, kind, reading, salt_of(pieces));
     let found = found_along(alloc, &mut walk, pieces)?;
     Ok(table_of(walk, found))
 }
 
 /// The bindings of a list, and what each of its occurrences denotes.
 #[derive(Drop)]
-pub(crate) struct Found<'a> {
+pub(crate) struct BindingsFound<'a> {
     bindings: Vec<Binding<'a>>,
     occurrences: Vec<Denoted>,
 }
 
 /// The table of a list, by what was met and what was found along it.
-pub(crate) fn table_of<'a>(walk: Walk<'a>, found: Found<'a>) -> Denotations<'a>
+pub(crate) fn table_of<'a>(walk: ScopeWalk<'a>, found: BindingsFound<'a>) -> Denotations<'a>
     ensures scopes { result.scopes.items ≡ walk.entry.scopes.items }
     ensures bindings { result.bindings.items ≡ found.entry.bindings.items }
     ensures occurrences { result.occurrences.items ≡ found.entry.occurrences.items }
@@ -66,9 +66,9 @@ pub(crate) fn table_of<'a>(walk: Walk<'a>, found: Found<'a>) -> Denotations<'a>
 // Goes over a list, and finds the bindings and what each occurrence denotes.
 fn found_along<'a>(
     alloc: Global,
-    walk: &mut Walk<'a>,
+    walk: &mut ScopeWalk<'a>,
     pieces: &[Piece<'a>],
-) -> Result<Found<'a>, AllocError>
+) -> Result<BindingsFound<'a>, AllocError>
     requires { IsBlank walk.old }
     ensures { IfOk result
         (MakesTable (reading_as walk.old.reading) (kind_as walk.old.kind) (map item_of pieces.now)
@@ -80,18 +80,18 @@ fn found_along<'a>(
 
 /// Goes over a list, where the name `arguments` without a context gets a number too.
 pub(crate) fn go_over_with_arguments<'a>(
-    walk: &mut Walk<'a>,
+    walk: &mut ScopeWalk<'a>,
     pieces: &[Piece<'a>],
 ) -> Result<(), AllocError>
     requires { IsBlank walk.old }
     ensures whole { OnOk result
-        (IsWhole walk.new (reading_as walk.old.reading) (kind_as walk.old.kind)
+        (IsWholeWalk walk.new (reading_as walk.old.reading) (kind_as walk.old.kind)
         (map item_of pieces.now)) }
     ensures arguments { OnOk result (HasArguments walk.new) }
-    ensures stays { OnOk result (Stays walk.old walk.new) }
+    ensures stays { OnOk result (StaysInWalk walk.old walk.new) }
 {
     walk.go_over(pieces)?;
-    let arguments = Name {
+    let arguments = NameKey {
         sym: "arguments",
         ctxt: None,
     };
@@ -100,23 +100,26 @@ pub(crate) fn go_over_with_arguments<'a>(
 }
 
 /// What is found by what was met in one pass over a list.
-pub(crate) fn searched<'a>(alloc: Global, walk: &Walk<'a>) -> Result<Found<'a>, AllocError>
-    requires named { AreNamed walk.now }
+pub(crate) fn searched<'a>(
+    alloc: Global,
+    walk: &ScopeWalk<'a>,
+) -> Result<BindingsFound<'a>, AllocError>
+    requires named { AreDeclarationsNumbered walk.now }
     requires seen { AreSeenNamed walk.now }
     ensures { IfOk result (λ found.
         (kind : Scopes.ModuleKind) (items : List Item) →
-        IsWhole walk.now (reading_as walk.now.reading) kind items →
+        IsWholeWalk walk.now (reading_as walk.now.reading) kind items →
         HasArguments walk.now →
         MakesTable (reading_as walk.now.reading) kind items walk.now found) }
 {
     let homes = homes_of(alloc, walk)?;
     let implied = implied_in(alloc, &walk.names, &homes.bindings.keys, walk.reading)?;
-    let mut search = Search {
+    let mut search = BindingSearch {
         bindings: homes.bindings,
         implied,
     };
     let occurrences = search.entries(alloc, walk, &homes.of, walk.reading)?;
-    Ok(Found {
+    Ok(BindingsFound {
         bindings: search.bindings.items,
         occurrences,
     })
@@ -125,17 +128,17 @@ pub(crate) fn searched<'a>(alloc: Global, walk: &Walk<'a>) -> Result<Found<'a>, 
 // The search for bindings along the occurrences: the bindings, to which the `arguments` of a function is added
 // where an occurrence denotes it, and the keys of those that are implied by symbol and context.
 #[derive(Drop)]
-struct Search<'a> {
+struct BindingSearch<'a> {
     bindings: Bindings<'a>,
     implied: Keys,
 }
 
-impl<'a> Search<'a> {
+impl<'a> BindingSearch<'a> {
     // The entry of each occurrence that was met; `of` has the bindings of the declarations.
     fn entries(
         &mut self,
         alloc: Global,
-        walk: &Walk<'a>,
+        walk: &ScopeWalk<'a>,
         of: &[usize],
         reading: Reading,
     ) -> Result<Vec<Denoted>, AllocError>
@@ -160,9 +163,9 @@ impl<'a> Search<'a> {
     // The binding that an occurrence denotes; `of` has those of the declarations.
     fn binding_of(
         &mut self,
-        walk: &Walk<'a>,
+        walk: &ScopeWalk<'a>,
         of: &[usize],
-        occurrence: Occurrence,
+        occurrence: NameOccurrence,
         reading: Reading,
     ) -> Result<Option<usize>, AllocError>
         requires { occurrence.name < length walk.now.names.keys }
@@ -188,8 +191,8 @@ impl<'a> Search<'a> {
     // What a name with a number denotes by its symbol.
     fn by_symbol(
         &mut self,
-        walk: &Walk<'a>,
-        name: Name<'a>,
+        walk: &ScopeWalk<'a>,
+        name: NameKey<'a>,
         number: usize,
         from: usize,
     ) -> Result<Option<usize>, AllocError>
@@ -208,8 +211,8 @@ impl<'a> Search<'a> {
     // What it denotes by symbol and context.
     fn by_context(
         &mut self,
-        walk: &Walk<'a>,
-        name: Name<'a>,
+        walk: &ScopeWalk<'a>,
+        name: NameKey<'a>,
         number: usize,
         from: usize,
     ) -> Result<Option<usize>, AllocError>
@@ -229,7 +232,7 @@ impl<'a> Search<'a> {
         };
         let adds = is_arguments(name.sym);
         let implied = nearest(&walk.scopes, &self.implied, adds, alone, from);
-        let plain = Name {
+        let plain = NameKey {
             sym: name.sym,
             ctxt: None,
         };
@@ -241,7 +244,7 @@ impl<'a> Search<'a> {
     fn put(
         &mut self,
         found: Option<usize>,
-        name: Name<'a>,
+        name: NameKey<'a>,
         number: usize,
     ) -> Result<Option<usize>, AllocError>
         ensures { IfOk result (Puts self.old self.new found (name_as name.entry) number) }
@@ -269,8 +272,8 @@ fn number_at(numbers: &[usize], place: usize) -> Option<usize>
 // The number of the key of a name in the nearest scope, from one on outwards, that has it among these keys.
 fn nearest_key(scopes: &[Scope], keys: &Keys, name: usize, from: usize) -> Option<usize>
     ensures { bound.NumberOf keys.now.keys name
-        (nearest_at (map numbered scopes.now)
-        (bound.binds_at (map numbered scopes.now) keys.now.keys false name) from)
+        (nearest_at (map numbered_scope scopes.now)
+        (bound.binds_at (map numbered_scope scopes.now) keys.now.keys false name) from)
         result }
 {
     let mut at = Some(from);
@@ -291,8 +294,8 @@ fn nearest_key(scopes: &[Scope], keys: &Keys, name: usize, from: usize) -> Optio
 // is that of a function where `adds` says that functions bind the name.
 fn nearest(scopes: &[Scope], keys: &Keys, adds: bool, name: usize, from: usize) -> Option<usize>
     ensures { result
-        ≡ nearest_at (map numbered scopes.now)
-        (bound.binds_at (map numbered scopes.now) keys.now.keys adds name) from }
+        ≡ nearest_at (map numbered_scope scopes.now)
+        (bound.binds_at (map numbered_scope scopes.now) keys.now.keys adds name) from }
 {
     let mut at = Some(from);
     for _ in 0..scopes.len() {
@@ -309,7 +312,7 @@ fn nearest(scopes: &[Scope], keys: &Keys, adds: bool, name: usize, from: usize) 
 
 // Whether a scope has the name with a number among these keys, or is that of a function which binds it.
 fn binds_at(scopes: &[Scope], keys: &Keys, adds: bool, name: usize, scope: usize) -> bool
-    ensures { result ≡ bound.binds_at (map numbered scopes.now) keys.now.keys adds name scope }
+    ensures { result ≡ bound.binds_at (map numbered_scope scopes.now) keys.now.keys adds name scope }
 {
     if keys.contains(&(scope, name)) {
         return true;
@@ -323,7 +326,7 @@ fn binds_at(scopes: &[Scope], keys: &Keys, adds: bool, name: usize, scope: usize
 
 // Whether the scope with a number is that of a function that is no arrow.
 fn is_function_at(scopes: &[Scope], number: usize) -> bool
-    ensures { result ≡ passes Homes.is_function (map numbered scopes.now) number }
+    ensures { result ≡ passes Homes.is_function (map numbered_scope scopes.now) number }
 {
     match scope_at(scopes, number) {
         None => false,
@@ -352,7 +355,7 @@ fn is_unresolved(ctxt: Option<u32>) -> bool
 // identifier declares the symbol in the same scope.
 fn implied_in<'a>(
     alloc: Global,
-    names: &IndexSet<Name<'a>, Mixed>,
+    names: &IndexSet<NameKey<'a>, Mixed>,
     keys: &Keys,
     reading: Reading,
 ) -> Result<Keys, AllocError>
@@ -368,7 +371,7 @@ fn implied_in<'a>(
 // The same by symbol and context.
 fn implied_by_context<'a>(
     alloc: Global,
-    names: &IndexSet<Name<'a>, Mixed>,
+    names: &IndexSet<NameKey<'a>, Mixed>,
     keys: &Keys,
 ) -> Result<Keys, AllocError>
     ensures { IfOk result (λ implied.
@@ -384,12 +387,12 @@ fn implied_by_context<'a>(
 // Adds a key, if it is that of a name that no identifier declares.
 fn put_implied<'a>(
     implied: &mut Keys,
-    names: &IndexSet<Name<'a>, Mixed>,
+    names: &IndexSet<NameKey<'a>, Mixed>,
     keys: &Keys,
     key: (usize, usize),
 ) -> Result<(), AllocError>
     ensures { OnOk result
-        ((other : Key) →
+        ((other : ScopeKey) →
         list_any (same_key other) implied.new.keys
         ≡ (list_any (same_key other) implied.old.keys
         || (is_implied_key (map name_as names.now.keys) keys.now.keys key && same_key other key))) }
@@ -402,7 +405,7 @@ fn put_implied<'a>(
 }
 
 // Whether a key has no context, and no identifier declares its symbol in the scope.
-fn is_implied<'a>(names: &IndexSet<Name<'a>, Mixed>, keys: &Keys, key: (usize, usize)) -> bool
+fn is_implied<'a>(names: &IndexSet<NameKey<'a>, Mixed>, keys: &Keys, key: (usize, usize)) -> bool
     ensures { result ≡ is_implied_key (map name_as names.now.keys) keys.now.keys key }
 {
     let Some(name) = names.get_index(key.1) else {
@@ -415,7 +418,12 @@ fn is_implied<'a>(names: &IndexSet<Name<'a>, Mixed>, keys: &Keys, key: (usize, u
 }
 
 // Whether a key of the scope is of an identifier's name with this symbol.
-fn is_written<'a>(names: &IndexSet<Name<'a>, Mixed>, keys: &Keys, scope: usize, sym: &str) -> bool
+fn is_written<'a>(
+    names: &IndexSet<NameKey<'a>, Mixed>,
+    keys: &Keys,
+    scope: usize,
+    sym: &str,
+) -> bool
     ensures { result
         ≡ list_any (bound.is_written_key (map name_as names.now.keys) scope sym.now)
         keys.now.keys }
@@ -430,7 +438,7 @@ fn is_written<'a>(names: &IndexSet<Name<'a>, Mixed>, keys: &Keys, scope: usize, 
 
 // Whether a key is of the scope and of an identifier's name with this symbol.
 fn is_written_key<'a>(
-    names: &IndexSet<Name<'a>, Mixed>,
+    names: &IndexSet<NameKey<'a>, Mixed>,
     key: (usize, usize),
     scope: usize,
     sym: &str,
@@ -445,7 +453,7 @@ fn is_written_key<'a>(
 }
 
 // Whether the name with a number is that of an identifier with this symbol, whose context is read.
-fn is_written_name<'a>(names: &IndexSet<Name<'a>, Mixed>, number: usize, sym: &str) -> bool
+fn is_written_name<'a>(names: &IndexSet<NameKey<'a>, Mixed>, number: usize, sym: &str) -> bool
     ensures { result
         ≡ bound.is_written_name sym.now (slice_get (map name_as names.now.keys) number) }
 {

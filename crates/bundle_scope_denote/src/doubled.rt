@@ -3,29 +3,29 @@
 ghost use Rattle.std.specs.Prelude.{◌≡◌, ◌<◌, ◌==◌, ◌||◌, ℕ, [], IfOk, List, OnOk, Some, length, map, slice_get};
 ghost use Rattle.std.specs.List.{list_any};
 ghost use Rattle.std.specs.Option.{option_map};
-ghost use Rattle.bundle_tree_piece.specs.Item.{item_of};
+ghost use Rattle.bundle_syntax.specs.Item.{item_of};
 ghost use Rattle.bundle_rules.specs.Scopes as Scopes;
 ghost use Rattle.bundle_rules.specs.Scopes.{outermost};
 ghost use Rattle.bundle_rules.specs.Declarations as declarations;
 ghost use Rattle.bundle_rules.specs.Homes as homes;
 ghost use Rattle.bundle_rules.specs.Doubled as doubled;
 ghost use Rattle.bundle_scope_denote.specs.Kinds.{kind_as, way_named};
-ghost use Rattle.bundle_scope_denote.specs.Numbers.{AreAround, numbered};
+ghost use Rattle.bundle_scope_denote.specs.Numbers.{AreAround, numbered_scope};
 ghost use Rattle.bundle_scope_denote.specs.Chains as chains;
-ghost use Rattle.bundle_scope_denote.specs.Bound.{Key, same_key};
-ghost use Rattle.bundle_scope_denote.specs.Ready.{AreNamed};
+ghost use Rattle.bundle_scope_denote.specs.Bound.{ScopeKey, same_key};
+ghost use Rattle.bundle_scope_denote.specs.Ready.{AreDeclarationsNumbered};
 ghost use Rattle.bundle_scope_denote.specs.Steps.{IsBlank};
 ghost use Rattle.bundle_scope_denote.specs.Barred as barred;
-ghost use Rattle.bundle_scope_denote.specs.Barred.{AreCounted, Holds, IsToldOf, Reaches, TellsFirst, begins_wrapped, counted, has_any, is_key_in, passed_at};
-ghost use Rattle.bundle_scope_denote.specs.Listed.{place_and_symbol, told_of};
+ghost use Rattle.bundle_scope_denote.specs.Barred.{AreCounted, HoldsNumbered, IsDoubledTold, ReachesSoFar, TellsFirstDoubled, begins_wrapped, times_counted, has_any, is_key_in, passed_at};
+ghost use Rattle.bundle_scope_denote.specs.Listed.{place_and_symbol, doubled_told};
 
 use crate::homes::{Keys, outer_at, scope_at, taker_of, takes_at};
 use crate::kinds::{is_var, is_wrapper, joins_outer};
 use crate::mixed::Mixed;
 use crate::salt::salt_of;
 use crate::table::{Doubled, ModuleKind, Reading, Scope, ScopeKind, Way};
-use crate::walk::{Declaration, Walk};
-use bundle_tree_piece::Piece;
+use crate::walk::{Declaration, ScopeWalk};
+use bundle_syntax::Piece;
 use indexmap::IndexSet;
 use std::alloc::{AllocError, Global};
 
@@ -38,24 +38,24 @@ pub fn first_doubled<'a>(
     kind: ModuleKind,
 ) -> Result<Option<Doubled<'a>>, AllocError>
     ensures { IfOk result (λ found.
-        option_map told_of found
+        option_map doubled_told found
         ≡ option_map place_and_symbol
         (doubled.first_doubled (kind_as kind) (map item_of pieces.now))) }
 {
-    let mut walk = Walk::new(alloc, kind, Reading::BySymbol, salt_of(pieces));
+    let mut walk = ScopeWalk::new(alloc, kind, Reading::BySymbol, salt_of(pieces));
     doubled_along(alloc, &mut walk, pieces)
 }
 
 // The same, by a walk that goes over the list.
 fn doubled_along<'a>(
     alloc: Global,
-    walk: &mut Walk<'a>,
+    walk: &mut ScopeWalk<'a>,
     pieces: &[Piece<'a>],
 ) -> Result<Option<Doubled<'a>>, AllocError>
     requires blank { IsBlank walk.old }
     requires reading { walk.old.reading ≡ Reading.BySymbol }
     ensures { IfOk result (λ found.
-        option_map told_of found
+        option_map doubled_told found
         ≡ option_map place_and_symbol
         (doubled.first_doubled (kind_as walk.old.kind) (map item_of pieces.now))) }
 {
@@ -66,10 +66,10 @@ fn doubled_along<'a>(
 /// The first declaration of a walk that may not stand beside those before it.
 pub(crate) fn first_met<'a>(
     alloc: Global,
-    walk: &Walk<'a>,
+    walk: &ScopeWalk<'a>,
 ) -> Result<Option<Doubled<'a>>, AllocError>
-    requires { AreNamed walk.now }
-    ensures { IfOk result (TellsFirst walk.now) }
+    requires { AreDeclarationsNumbered walk.now }
+    ensures { IfOk result (TellsFirstDoubled walk.now) }
 {
     let times = times_of(alloc, walk)?;
     let mut met = Met::new(alloc, *walk.names.hasher());
@@ -85,7 +85,7 @@ enum Times {
 }
 
 // For each name how often it is declared.
-fn times_of<'a>(alloc: Global, walk: &Walk<'a>) -> Result<Vec<Times>, AllocError>
+fn times_of<'a>(alloc: Global, walk: &ScopeWalk<'a>) -> Result<Vec<Times>, AllocError>
     ensures { IfOk result (λ times. AreCounted walk.now.declarations.items times.items) }
 {
     let mut times = vec![in alloc; Times::Never; walk.names.len()]?;
@@ -99,7 +99,7 @@ fn times_of<'a>(alloc: Global, walk: &Walk<'a>) -> Result<Vec<Times>, AllocError
 fn count(times: &mut Vec<Times>, name: usize)
     ensures { (number : ℕ) →
         slice_get times.new.items number
-        ≡ option_map (counted (name == number)) (slice_get times.old.items number) }
+        ≡ option_map (times_counted (name == number)) (slice_get times.old.items number) }
 {
     if let Some(its) = times.get_mut(name) {
         *its = once_more(*its);
@@ -128,9 +128,9 @@ fn is_often(times: &[Times], name: usize) -> bool
 }
 
 // What is told of a declaration that is doubled.
-fn doubled_at<'a>(walk: &Walk<'a>, declaration: Declaration) -> Doubled<'a>
+fn doubled_at<'a>(walk: &ScopeWalk<'a>, declaration: Declaration) -> Doubled<'a>
     requires { declaration.name < length walk.now.names.keys }
-    ensures { IsToldOf walk.now declaration result }
+    ensures { IsDoubledTold walk.now declaration result }
 {
     let name = walk.names[declaration.name];
     Doubled {
@@ -149,10 +149,10 @@ struct Reach {
 
 fn reach_of<'a>(
     alloc: Global,
-    walk: &Walk<'a>,
+    walk: &ScopeWalk<'a>,
     declaration: Declaration,
 ) -> Result<Reach, AllocError>
-    ensures { IfOk result (Reaches walk.now declaration) }
+    ensures { IfOk result (ReachesSoFar walk.now declaration) }
 {
     let taker = taker_of(&walk.scopes, declaration.way, declaration.scope);
     let barred = if is_var(declaration.way) {
@@ -174,7 +174,7 @@ fn passed_by(
     from: usize,
 ) -> Result<Vec<usize>, AllocError>
     ensures { IfOk result (λ passed.
-        passed.items ≡ passed_at (map numbered scopes.now) way from) }
+        passed.items ≡ passed_at (map numbered_scope scopes.now) way from) }
 {
     let mut passed = Vec::new(alloc);
     let mut at = Some(from);
@@ -199,7 +199,7 @@ fn held_by(
     way: Way,
     taker: Option<usize>,
 ) -> Result<Vec<usize>, AllocError>
-    ensures { IfOk result (λ held. Holds (map numbered scopes.now) top way taker held.items) }
+    ensures { IfOk result (λ held. HoldsNumbered (map numbered_scope scopes.now) top way taker held.items) }
 {
     let mut held = Vec::new(alloc);
     if !stands_once(scopes, way, taker) {
@@ -214,7 +214,7 @@ fn held_by(
 fn stands_once(scopes: &[Scope], way: Way, taker: Option<usize>) -> bool
     ensures { (by : declarations.Way) (around : List Scopes.Scope) →
         way ≡ way_named by →
-        AreAround (map numbered scopes.now) taker around →
+        AreAround (map numbered_scope scopes.now) taker around →
         result ≡ doubled.stands_once by around }
 {
     match way {
@@ -228,7 +228,7 @@ fn stands_once(scopes: &[Scope], way: Way, taker: Option<usize>) -> bool
 // the top of a module.
 fn may_double_functions(scopes: &[Scope], taker: Option<usize>) -> bool
     ensures { (around : List Scopes.Scope) →
-        AreAround (map numbered scopes.now) taker around →
+        AreAround (map numbered_scope scopes.now) taker around →
         result ≡ doubled.may_double_functions around }
 {
     let Some(number) = taker else {
@@ -247,7 +247,7 @@ fn may_double_functions(scopes: &[Scope], taker: Option<usize>) -> bool
 // Whether a scope is that of the parameters of a CommonJS module.
 fn is_wrapper_at(scopes: &[Scope], number: Option<usize>) -> bool
     ensures { (around : List Scopes.Scope) →
-        AreAround (map numbered scopes.now) number around → result ≡ begins_wrapped around }
+        AreAround (map numbered_scope scopes.now) number around → result ≡ begins_wrapped around }
 {
     let Some(number) = number else {
         return false;
@@ -261,9 +261,9 @@ fn is_wrapper_at(scopes: &[Scope], number: Option<usize>) -> bool
 // The number of the scope whose names keep apart from those of the taker.
 fn group_of(scopes: &[Scope], top: usize, taker: Option<usize>) -> usize
     ensures { (around : List Scopes.Scope) (kind : Scopes.ModuleKind) →
-        AreAround (map numbered scopes.now) (Some top) (outermost kind) →
-        AreAround (map numbered scopes.now) taker around →
-        chains.scope_at (map numbered scopes.now) result ≡ Some (homes.group_of around) }
+        AreAround (map numbered_scope scopes.now) (Some top) (outermost kind) →
+        AreAround (map numbered_scope scopes.now) taker around →
+        chains.numbered_scope_at (map numbered_scope scopes.now) result ≡ Some (homes.group_of around) }
 {
     match taker {
         None => top,
@@ -274,8 +274,8 @@ fn group_of(scopes: &[Scope], top: usize, taker: Option<usize>) -> usize
 // The same of the scope with a number.
 fn group_at(scopes: &[Scope], number: usize) -> usize
     ensures { (around : List Scopes.Scope) →
-        AreAround (map numbered scopes.now) (Some number) around →
-        chains.scope_at (map numbered scopes.now) result ≡ Some (homes.group_of around) }
+        AreAround (map numbered_scope scopes.now) (Some number) around →
+        chains.numbered_scope_at (map numbered_scope scopes.now) result ≡ Some (homes.group_of around) }
 {
     match scope_at(scopes, number) {
         Some(scope) if joins_outer(scope.kind) => scope.outer.unwrap_or(number),
@@ -307,14 +307,14 @@ impl Met {
     fn first_excluded<'a>(
         &mut self,
         alloc: Global,
-        walk: &Walk<'a>,
+        walk: &ScopeWalk<'a>,
         times: &[Times],
     ) -> Result<Option<Doubled<'a>>, AllocError>
-        requires named { AreNamed walk.now }
+        requires named { AreDeclarationsNumbered walk.now }
         requires counted { AreCounted walk.now.declarations.items times.now }
         requires taken { self.old.taken.keys ≡ [] }
         requires barred { self.old.barred.keys ≡ [] }
-        ensures { IfOk result (TellsFirst walk.now) }
+        ensures { IfOk result (TellsFirstDoubled walk.now) }
     {
         for declaration in &walk.declarations {
             if !is_often(times, declaration.name) {
@@ -344,12 +344,12 @@ impl Met {
     // Adds a declaration.
     fn add(&mut self, name: usize, reach: &Reach) -> Result<(), AllocError>
         ensures taken { OnOk result
-            ((key : Key) →
+            ((key : ScopeKey) →
             list_any (same_key key) self.new.taken.keys
             ≡ (list_any (same_key key) self.old.taken.keys
             || same_key key (reach.now.taker, name))) }
         ensures barred { OnOk result
-            ((key : Key) →
+            ((key : ScopeKey) →
             list_any (same_key key) self.new.barred.keys
             ≡ (list_any (same_key key) self.old.barred.keys
             || is_key_in key name reach.now.barred.items)) }
@@ -375,7 +375,7 @@ fn is_taken(taken: &Keys, name: usize, scopes: &[usize]) -> bool
 // Adds a key.
 fn put_key(keys: &mut Keys, key: (usize, usize)) -> Result<(), AllocError>
     ensures { OnOk result
-        ((other : Key) →
+        ((other : ScopeKey) →
         list_any (same_key other) keys.new.keys
         ≡ (list_any (same_key other) keys.old.keys || same_key other key)) }
 {
@@ -386,7 +386,7 @@ fn put_key(keys: &mut Keys, key: (usize, usize)) -> Result<(), AllocError>
 // Adds a name in each of these scopes.
 fn put_keys(keys: &mut Keys, name: usize, scopes: &[usize]) -> Result<(), AllocError>
     ensures { OnOk result
-        ((other : Key) →
+        ((other : ScopeKey) →
         list_any (same_key other) keys.new.keys
         ≡ (list_any (same_key other) keys.old.keys || is_key_in other name scopes.now)) }
 {

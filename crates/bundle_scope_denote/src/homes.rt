@@ -5,17 +5,17 @@ ghost use Rattle.std.specs.List.{list_any};
 ghost use Rattle.std.specs.Option.{option_map};
 ghost use Rattle.bundle_rules.specs.Declarations as declarations;
 ghost use Rattle.bundle_scope_denote.specs.Kinds.{joins_by, takes_by};
-ghost use Rattle.bundle_scope_denote.specs.Numbers.{name_as, numbered};
+ghost use Rattle.bundle_scope_denote.specs.Numbers.{name_as, numbered_scope};
 ghost use Rattle.bundle_scope_denote.specs.Chains as chains;
 ghost use Rattle.bundle_scope_denote.specs.Chains.{nearest_at, passes};
 ghost use Rattle.bundle_scope_denote.specs.Bound as bound;
-ghost use Rattle.bundle_scope_denote.specs.Bound.{Key, home_from, is_parameter_key, put_key, same_key};
-ghost use Rattle.bundle_scope_denote.specs.Ready.{AddsHome, AreHomes, AreHomesOf, AreNamed, FindsAlone, Matches, binding_name, has_parameter, taken_key};
+ghost use Rattle.bundle_scope_denote.specs.Bound.{ScopeKey, home_from, is_parameter_key, put_key, same_key};
+ghost use Rattle.bundle_scope_denote.specs.Ready.{AddsHome, AreHomes, AreHomesOf, AreDeclarationsNumbered, FindsAlone, Matches, binding_name, has_parameter, taken_key};
 
 use crate::kinds::{has_parameters, holds_parameters, joins_parameter, takes};
 use crate::mixed::Mixed;
 use crate::table::{Binding, Scope, Way};
-use crate::walk::{Declaration, Name, Walk};
+use crate::walk::{Declaration, NameKey, ScopeWalk};
 use indexmap::IndexSet;
 use std::alloc::{AllocError, Global};
 
@@ -62,8 +62,8 @@ pub(crate) struct Homes<'a> {
 }
 
 /// The homes of the declarations that were met, in their order.
-pub(crate) fn homes_of<'a>(alloc: Global, walk: &Walk<'a>) -> Result<Homes<'a>, AllocError>
-    requires { AreNamed walk.now }
+pub(crate) fn homes_of<'a>(alloc: Global, walk: &ScopeWalk<'a>) -> Result<Homes<'a>, AllocError>
+    requires { AreDeclarationsNumbered walk.now }
     ensures { IfOk result (AreHomes walk.now walk.now.declarations.items) }
 {
     let parameters = parameters_of(alloc, walk)?;
@@ -72,8 +72,12 @@ pub(crate) fn homes_of<'a>(alloc: Global, walk: &Walk<'a>) -> Result<Homes<'a>, 
 }
 
 // The same by the names of the parameters.
-fn homes_by<'a>(alloc: Global, walk: &Walk<'a>, parameters: &Keys) -> Result<Homes<'a>, AllocError>
-    requires { AreNamed walk.now }
+fn homes_by<'a>(
+    alloc: Global,
+    walk: &ScopeWalk<'a>,
+    parameters: &Keys,
+) -> Result<Homes<'a>, AllocError>
+    requires { AreDeclarationsNumbered walk.now }
     ensures { IfOk result (AreHomesOf walk.now parameters.now.keys walk.now.declarations.items) }
 {
     let count = walk.declarations.len();
@@ -94,7 +98,7 @@ impl<'a> Homes<'a> {
     // Adds the home of a declaration.
     fn add(
         &mut self,
-        walk: &Walk<'a>,
+        walk: &ScopeWalk<'a>,
         parameters: &Keys,
         declaration: Declaration,
     ) -> Result<(), AllocError>
@@ -118,8 +122,8 @@ impl<'a> Homes<'a> {
 
 /// The number of the name without a context that has the symbol of a name with a number.
 pub(crate) fn alone_of<'a>(
-    names: &IndexSet<Name<'a>, Mixed>,
-    name: Name<'a>,
+    names: &IndexSet<NameKey<'a>, Mixed>,
+    name: NameKey<'a>,
     number: usize,
 ) -> Option<usize>
     ensures { slice_get names.now.keys number ≡ Some name.entry →
@@ -132,19 +136,19 @@ pub(crate) fn alone_of<'a>(
 }
 
 // The number of the name without a context that has this symbol.
-fn without_context<'a>(names: &IndexSet<Name<'a>, Mixed>, sym: &'a str) -> Option<usize>
+fn without_context<'a>(names: &IndexSet<NameKey<'a>, Mixed>, sym: &'a str) -> Option<usize>
     ensures { FindsAlone (map name_as names.now.keys) sym.now result }
 {
-    names.get_index_of(&Name { sym, ctxt: None })
+    names.get_index_of(&NameKey { sym, ctxt: None })
 }
 
 // Each scope of parameters with the name of each parameter.
-fn parameters_of<'a>(alloc: Global, walk: &Walk<'a>) -> Result<Keys, AllocError>
+fn parameters_of<'a>(alloc: Global, walk: &ScopeWalk<'a>) -> Result<Keys, AllocError>
     ensures { IfOk result (λ parameters.
-        (key : Key) →
+        (key : ScopeKey) →
         list_any (same_key key) parameters.keys
-        ≡ list_any (is_parameter_key (map numbered walk.now.scopes.items) key)
-        (map (taken_key (map numbered walk.now.scopes.items) walk.now.top)
+        ≡ list_any (is_parameter_key (map numbered_scope walk.now.scopes.items) key)
+        (map (taken_key (map numbered_scope walk.now.scopes.items) walk.now.top)
         walk.now.declarations.items)) }
 {
     let mut parameters = IndexSet::with_hasher(alloc, *walk.names.hasher());
@@ -162,10 +166,10 @@ fn put_parameter(
     key: (usize, usize),
 ) -> Result<(), AllocError>
     ensures { OnOk result
-        ((other : Key) →
+        ((other : ScopeKey) →
         list_any (same_key other) parameters.new.keys
         ≡ (list_any (same_key other) parameters.old.keys
-        || is_parameter_key (map numbered scopes.now) other key)) }
+        || is_parameter_key (map numbered_scope scopes.now) other key)) }
 {
     if !holds_parameters_at(scopes, key.0) {
         return Ok(());
@@ -176,16 +180,16 @@ fn put_parameter(
 
 // The scope to which a declared name belongs; `alone` is the number of its symbol without a context.
 fn home_of<'a>(
-    walk: &Walk<'a>,
+    walk: &ScopeWalk<'a>,
     parameters: &Keys,
     declaration: Declaration,
     alone: Option<usize>,
 ) -> usize
     ensures { result
-        ≡ home_from (map numbered walk.now.scopes.items) walk.now.top (joins_by declaration.way)
+        ≡ home_from (map numbered_scope walk.now.scopes.items) walk.now.top (joins_by declaration.way)
         (has_parameter parameters.now.keys declaration.name alone)
-        (nearest_at (map numbered walk.now.scopes.items)
-        (passes (takes_by declaration.way) (map numbered walk.now.scopes.items))
+        (nearest_at (map numbered_scope walk.now.scopes.items)
+        (passes (takes_by declaration.way) (map numbered_scope walk.now.scopes.items))
         declaration.scope) }
 {
     let Some(taker) = taker_of(&walk.scopes, declaration.way, declaration.scope) else {
@@ -220,7 +224,7 @@ fn is_parameter(parameters: &Keys, scope: usize, name: usize, alone: Option<usiz
 /// The number of the nearest scope, from one on outwards, that takes a name declared in this way.
 pub(crate) fn taker_of(scopes: &[Scope], way: Way, from: usize) -> Option<usize>
     ensures { result
-        ≡ nearest_at (map numbered scopes.now) (passes (takes_by way) (map numbered scopes.now))
+        ≡ nearest_at (map numbered_scope scopes.now) (passes (takes_by way) (map numbered_scope scopes.now))
         from }
 {
     let mut at = Some(from);
@@ -238,7 +242,7 @@ pub(crate) fn taker_of(scopes: &[Scope], way: Way, from: usize) -> Option<usize>
 
 /// Whether the scope with a number takes a name declared in this way, if it is the nearest such one.
 pub(crate) fn takes_at(scopes: &[Scope], way: Way, number: usize) -> bool
-    ensures { result ≡ passes (takes_by way) (map numbered scopes.now) number }
+    ensures { result ≡ passes (takes_by way) (map numbered_scope scopes.now) number }
 {
     match scope_at(scopes, number) {
         None => false,
@@ -248,7 +252,7 @@ pub(crate) fn takes_at(scopes: &[Scope], way: Way, number: usize) -> bool
 
 /// The number of the scope around the one with a number.
 pub(crate) fn outer_at(scopes: &[Scope], number: usize) -> Option<usize>
-    ensures { result ≡ chains.outer_at (map numbered scopes.now) number }
+    ensures { result ≡ chains.outer_at (map numbered_scope scopes.now) number }
 {
     match scope_at(scopes, number) {
         None => None,
@@ -258,14 +262,14 @@ pub(crate) fn outer_at(scopes: &[Scope], number: usize) -> Option<usize>
 
 /// The scope with a number.
 pub(crate) fn scope_at(scopes: &[Scope], number: usize) -> Option<Scope>
-    ensures { option_map numbered result ≡ slice_get (map numbered scopes.now) number }
+    ensures { option_map numbered_scope result ≡ slice_get (map numbered_scope scopes.now) number }
 {
     scopes.get(number).copied()
 }
 
 // The number of the scope of the parameters of the function of which a scope is the body.
 fn beside_at(scopes: &[Scope], body: usize) -> Option<usize>
-    ensures { result ≡ bound.beside_at (map numbered scopes.now) body }
+    ensures { result ≡ bound.beside_at (map numbered_scope scopes.now) body }
 {
     if has_parameters_at(scopes, body) {
         outer_at(scopes, body)
@@ -276,7 +280,7 @@ fn beside_at(scopes: &[Scope], body: usize) -> Option<usize>
 
 // Whether the scope with a number is a body that has parameters beside it.
 fn has_parameters_at(scopes: &[Scope], number: usize) -> bool
-    ensures { result ≡ passes bound.has_parameters (map numbered scopes.now) number }
+    ensures { result ≡ passes bound.has_parameters (map numbered_scope scopes.now) number }
 {
     match scope_at(scopes, number) {
         None => false,
@@ -286,7 +290,7 @@ fn has_parameters_at(scopes: &[Scope], number: usize) -> bool
 
 // Whether the scope with a number is that of parameters.
 fn holds_parameters_at(scopes: &[Scope], number: usize) -> bool
-    ensures { result ≡ passes bound.holds_parameters (map numbered scopes.now) number }
+    ensures { result ≡ passes bound.holds_parameters (map numbered_scope scopes.now) number }
 {
     match scope_at(scopes, number) {
         None => false,

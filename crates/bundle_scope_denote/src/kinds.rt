@@ -1,7 +1,7 @@
 //! What each kind of node means for the names in it: which scope it makes, and how it declares.
 
 ghost use Rattle.std.specs.Prelude.{◌≡◌, ℕ};
-ghost use Rattle.bundle_tree_piece.specs.Item.{head_of};
+ghost use Rattle.bundle_syntax.specs.Item.{head_of};
 ghost use Rattle.bundle_rules.specs.Scopes as scopes;
 ghost use Rattle.bundle_rules.specs.Scopes.{exports_default};
 ghost use Rattle.bundle_rules.specs.Declarations as declarations;
@@ -11,8 +11,7 @@ ghost use Rattle.bundle_scope_denote.specs.Kinds as kinds;
 ghost use Rattle.bundle_scope_denote.specs.Kinds.{is_var_by, joins_by, kind_made, kind_named, scope_as, takes_by};
 
 use crate::table::{ScopeKind, Way};
-use bundle_tree_leaf::VarDeclKind;
-use bundle_tree_piece::Node;
+use bundle_syntax::{Node, VarDeclKind};
 
 /// Whether a name that stands in such a node is declared by what stands around it: the nodes of patterns.
 pub(crate) fn is_pattern(node: &Node) -> bool
@@ -52,7 +51,7 @@ pub(crate) fn is_quiet(node: &Node) -> bool
 /// The field of such a node that is the head of a loop.
 pub(crate) fn loop_head(node: &Node) -> Option<u8>
     ensures { (field : ℕ) →
-        kinds.is_field result field ≡ declarations.is_loop_head (head_of node.now) field }
+        kinds.is_in_field result field ≡ declarations.is_loop_head (head_of node.now) field }
 {
     match node {
         Node::ForStmt | Node::ForInStmt => Some(0),
@@ -63,7 +62,7 @@ pub(crate) fn loop_head(node: &Node) -> Option<u8>
 
 /// Whether a field is this one.
 pub(crate) fn is_field(own: Option<u8>, field: u8) -> bool
-    ensures { result ≡ kinds.is_field own field }
+    ensures { result ≡ kinds.is_in_field own field }
 {
     match own {
         None => false,
@@ -83,7 +82,7 @@ pub(crate) fn is_default(node: &Node) -> bool
 
 /// How `var`, `let` and `const` declare, in the head of a loop or elsewhere.
 pub(crate) fn way_of_kind(kind: VarDeclKind, heads_loop: bool) -> Way
-    ensures { result ≡ kinds.way_of_kind kind heads_loop }
+    ensures { result ≡ kinds.kind_way kind heads_loop }
 {
     match kind {
         VarDeclKind::Var => Way::Var,
@@ -96,7 +95,7 @@ pub(crate) fn way_of_kind(kind: VarDeclKind, heads_loop: bool) -> Way
 
 /// How a node declares the names of the declarators in it.
 pub(crate) fn way_of_variable(node: &Node, heads_loop: bool) -> Option<Way>
-    ensures { result ≡ kinds.way_of_variable (head_of node.now) heads_loop }
+    ensures { result ≡ kinds.variable_way (head_of node.now) heads_loop }
 {
     match node {
         Node::VarDecl { kind, .. } => Some(way_of_kind(*kind, heads_loop)),
@@ -107,7 +106,7 @@ pub(crate) fn way_of_variable(node: &Node, heads_loop: bool) -> Option<Way>
 /// How a node that is no pattern declares a name that stands in it; `variable` is how a declarator there
 /// declares, and `is_default` says whether the node is a default declaration.
 pub(crate) fn way_in(node: &Node, variable: Option<Way>, is_default: bool) -> Option<Way>
-    ensures { result ≡ kinds.way_in (head_of node.now) variable is_default }
+    ensures { result ≡ kinds.head_way_in (head_of node.now) variable is_default }
 {
     match node {
         Node::ImportNamedSpecifier | Node::ImportDefaultSpecifier | Node::ImportStarAsSpecifier =>

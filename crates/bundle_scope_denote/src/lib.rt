@@ -17,6 +17,6 @@ mod walk;
 pub use denote::denotations;
 pub use doubled::first_doubled;
 pub use mixed::Mixed;
-pub use named::{Named, names_and_doubled};
+pub use named::{CheckedNames, names_and_doubled};
 pub use salt::{Salt, salt_of};
 pub use table::{Binding, Denotations, Denoted, Doubled, ModuleKind, Reading, Scope, ScopeKind};

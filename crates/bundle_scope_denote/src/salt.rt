@@ -3,10 +3,10 @@
 ghost use Rattle.std.specs.Prelude.{◌≡◌, ◌++◌, ◌<◌, ◌≤◌, List, ℕ, length, map};
 ghost use Rattle.sha2.specs.Hashers.{Holds512};
 ghost use Rattle.sha2.specs.Sha512.{sha512};
-ghost use Rattle.bundle_tree_piece.specs.Item.{item_of};
-ghost use Rattle.bundle_scope_denote.specs.Salted.{few, message_of, salted, told, unsalted};
+ghost use Rattle.bundle_syntax.specs.Item.{item_of};
+ghost use Rattle.bundle_scope_denote.specs.Salted.{few, message_of, salted, salt_bytes, unsalted};
 
-use bundle_tree_piece::Piece;
+use bundle_syntax::Piece;
 use sha2::{Digest, Sha512};
 use std::hash::{BuildHasher, DefaultHasher, Hasher};
 
@@ -72,7 +72,7 @@ fn salted_by<'a>(pieces: &[Piece<'a>]) -> Salt
 fn tell<'a>(digest: &mut Sha512, piece: Piece<'a>)
     ensures { (message : List ℕ) →
         Holds512 digest.old message →
-        Holds512 digest.new (message ++ told (item_of piece.entry)) }
+        Holds512 digest.new (message ++ salt_bytes (item_of piece.entry)) }
 {
     if let Piece::Ident { sym, .. } = piece {
         digest.update(sym);

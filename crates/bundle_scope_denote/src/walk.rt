@@ -2,8 +2,8 @@
 
 ghost use Rattle.std.specs.Prelude.{◌≡◌, ◌+◌, ◌<◌, ◌++◌, ◌∷◌, [], ℕ, true, false, IfOk, OnOk, cond, drop, map, length, slice_get};
 ghost use Rattle.std.specs.Option.{option_map, option_to_list};
-ghost use Rattle.bundle_tree_piece.specs.Item as Items;
-ghost use Rattle.bundle_tree_piece.specs.Item.{head_of, item_of};
+ghost use Rattle.bundle_syntax.specs.Item as Items;
+ghost use Rattle.bundle_syntax.specs.Item.{head_of, item_of};
 ghost use Rattle.bundle_rules.specs.Places.{is_binding};
 ghost use Rattle.bundle_rules.specs.Scopes as Scopes;
 ghost use Rattle.bundle_rules.specs.Scopes.{exports_default};
@@ -11,11 +11,11 @@ ghost use Rattle.bundle_rules.specs.Declarations as Declarations;
 ghost use Rattle.bundle_scope_denote.specs.Chains.{top_number};
 ghost use Rattle.bundle_scope_denote.specs.Kinds as kinds;
 ghost use Rattle.bundle_scope_denote.specs.Kinds.{kind_as, kind_made, kind_named, reading_as, scope_as};
-ghost use Rattle.bundle_scope_denote.specs.Steps.{Begins, Ends, Goes, IsBlank, IsTidyAt, IsWalkAt, IsWhole, Occurs, Opens, Starts, Stays};
-ghost use Rattle.bundle_scope_denote.specs.Numbers.{Keeps, name_as, numbered, in_scope};
+ghost use Rattle.bundle_scope_denote.specs.Steps.{BeginsNode, EndsNode, WalksOn, IsBlank, IsTidyAt, IsWalkAt, IsWholeWalk, Occurs, Opens, Starts, StaysInWalk};
+ghost use Rattle.bundle_scope_denote.specs.Numbers.{KeepsNumbers, name_as, numbered_scope, in_scope};
 ghost use Rattle.bundle_scope_denote.specs.Hashed.{hashed, hashed-alike};
 ghost use Rattle.bundle_scope_denote.specs.Walked as walked;
-ghost use Rattle.bundle_scope_denote.specs.Walked.{GoesOn, IsAlone, IsBare, IsDefault, StaysOnce, begins_node_by, begins_nameless, declared_as, is_identifier_by, is_nameless_by};
+ghost use Rattle.bundle_scope_denote.specs.Walked.{InheritsOpen, IsDeclaredAlone, IsBare, IsDefault, StaysOnce, begins_node_by, begins_nameless, declared_as, is_identifier_by, is_nameless_by};
 
 use crate::kinds::{
     block_in, is_default, is_field, is_pattern, is_quiet, kind_of_scope, leaves_first_out,
@@ -24,20 +24,20 @@ use crate::kinds::{
 use crate::mixed::Mixed;
 use crate::salt::Salt;
 use crate::table::{ModuleKind, Reading, Scope, ScopeKind, Way};
-use bundle_tree_piece::{Node, Piece, Role};
+use bundle_syntax::{Node, Piece, Role};
 use indexmap::IndexSet;
 use std::alloc::{AllocError, Global};
 use std::hash::{Hash, Hasher};
 
 /// A name: its symbol, and its context where names are read by symbol and context.
 #[derive(Clone, Copy, PartialEq, Eq)]
-pub(crate) struct Name<'a> {
+pub(crate) struct NameKey<'a> {
     pub(crate) sym: &'a str,
     pub(crate) ctxt: Option<u32>,
 }
 
 // The symbol goes last, so that nothing has to stand behind it, and the context takes a whole word.
-impl<'a> Hash for Name<'a> {
+impl<'a> Hash for NameKey<'a> {
     ghost hash_input = { hashed };
 
     ghost respects_eq = { hashed-alike };
@@ -62,7 +62,7 @@ pub(crate) struct Declaration {
 /// An identifier that binds a name or refers to one: the number of the name, the innermost scope around it,
 /// and the number of its declaration where it is one.
 #[derive(Clone, Copy)]
-pub(crate) struct Occurrence {
+pub(crate) struct NameOccurrence {
     pub(crate) place: usize,
     pub(crate) name: usize,
     pub(crate) scope: usize,
@@ -95,11 +95,11 @@ pub(crate) struct Nodes {
 /// What was met so far. `top` is the number of the scope of the module's top; `inner` is the innermost open node,
 /// and at last what is known outside all nodes; and so many more of which the same is known are open in it.
 #[derive(Drop)]
-pub(crate) struct Walk<'a> {
+pub(crate) struct ScopeWalk<'a> {
     pub(crate) scopes: Vec<Scope>,
-    pub(crate) names: IndexSet<Name<'a>, Mixed>,
+    pub(crate) names: IndexSet<NameKey<'a>, Mixed>,
     pub(crate) declarations: Vec<Declaration>,
-    pub(crate) occurrences: Vec<Occurrence>,
+    pub(crate) occurrences: Vec<NameOccurrence>,
     pub(crate) top: usize,
     inner: Open,
     more: u32,
@@ -109,15 +109,20 @@ pub(crate) struct Walk<'a> {
     pub(crate) salt: Salt,
 }
 
-impl<'a> Walk<'a> {
+impl<'a> ScopeWalk<'a> {
     /// Nothing was met yet.
-    pub(crate) fn new(alloc: Global, kind: ModuleKind, reading: Reading, salt: Salt) -> Walk<'a>
+    pub(crate) fn new(
+        alloc: Global,
+        kind: ModuleKind,
+        reading: Reading,
+        salt: Salt,
+    ) -> ScopeWalk<'a>
         ensures blank { IsBlank result }
         ensures kind { result.kind ≡ kind }
         ensures reading { result.reading ≡ reading }
     {
         let top = top_of(kind);
-        Walk {
+        ScopeWalk {
             scopes: Vec::new(alloc),
             names: IndexSet::with_hasher(alloc, Mixed::of(&salt)),
             declarations: Vec::new(alloc),
@@ -136,9 +141,9 @@ impl<'a> Walk<'a> {
     pub(crate) fn go_over(&mut self, pieces: &[Piece<'a>]) -> Result<(), AllocError>
         requires { IsBlank self.old }
         ensures whole { OnOk result
-            (IsWhole self.new (reading_as self.old.reading) (kind_as self.old.kind)
+            (IsWholeWalk self.new (reading_as self.old.reading) (kind_as self.old.kind)
             (map item_of pieces.now)) }
-        ensures stays { OnOk result (Stays self.old self.new) }
+        ensures stays { OnOk result (StaysInWalk self.old self.new) }
     {
         self.make_room(pieces.len())?;
         self.start()?;
@@ -152,7 +157,7 @@ impl<'a> Walk<'a> {
     fn make_room(&mut self, count: usize) -> Result<(), AllocError>
         requires { IsBlank self.old }
         ensures blank { IsBlank self.new }
-        ensures stays { Stays self.old self.new }
+        ensures stays { StaysInWalk self.old self.new }
     {
         self.scopes.reserve(count / 12)?;
         self.names.reserve(count / 12)?;
@@ -202,7 +207,7 @@ impl<'a> Walk<'a> {
         requires within { place < length pieces.now }
         requires before { IsWalkAt self.old (map item_of pieces.now) place }
         requires tidy { IsTidyAt self.old place }
-        ensures goes { OnOk result (Goes self.old self.new (map item_of pieces.now) place) }
+        ensures goes { OnOk result (WalksOn self.old self.new (map item_of pieces.now) place) }
         ensures tidy { OnOk result (IsTidyAt self.new (place + 1)) }
     {
         match &pieces[place] {
@@ -239,7 +244,7 @@ impl<'a> Walk<'a> {
         requires at { slice_get (map item_of pieces.now) place
             ≡ Some (Items.Open field (head_of node.now)) }
         ensures { OnOk result
-            (Begins self.old self.new place field (head_of node.now)
+            (BeginsNode self.old self.new place field (head_of node.now)
             (begins_nameless (map item_of (drop place pieces.now)))) }
     {
         if is_quiet(node) {
@@ -253,7 +258,7 @@ impl<'a> Walk<'a> {
     fn begin_quiet(&mut self, field: u8, node: &Node<'a>) -> Result<(), AllocError>
         requires { kinds.is_quiet (head_of node.now) ≡ true }
         ensures { OnOk result
-            ((place : ℕ) → Begins self.old self.new place field (head_of node.now) false) }
+            ((place : ℕ) → BeginsNode self.old self.new place field (head_of node.now) false) }
     {
         if self.more < u32::MAX && goes_on(node, &self.inner) {
             self.more += 1;
@@ -278,7 +283,7 @@ impl<'a> Walk<'a> {
     ) -> Result<(), AllocError>
         requires { place < length pieces.now }
         ensures { OnOk result
-            (Begins self.old self.new place field (head_of node.now)
+            (BeginsNode self.old self.new place field (head_of node.now)
             (begins_nameless (map item_of (drop place pieces.now)))) }
     {
         let default = default_at(&mut self.names, &pieces[place..], place, self.top)?;
@@ -319,7 +324,7 @@ impl<'a> Walk<'a> {
         let way = way_for(&self.inner, role);
         let declared = declared_by(way, place, name, scope);
         let declaration = push_some(&mut self.declarations, declared)?;
-        self.occurrences.push(Occurrence {
+        self.occurrences.push(NameOccurrence {
             place,
             name,
             scope,
@@ -330,7 +335,7 @@ impl<'a> Walk<'a> {
 
     // The innermost node ends.
     fn end(&mut self)
-        ensures { Ends self.old self.new }
+        ensures { EndsNode self.old self.new }
     {
         if self.more > 0 {
             self.more -= 1;
@@ -378,7 +383,7 @@ fn outermost(top: usize) -> Open
 
 // Whether the same is known of a node for which nothing is to be noted as of the innermost one.
 fn goes_on<'a>(node: &Node<'a>, inner: &Open) -> bool
-    ensures { result ≡ true → GoesOn (head_of node.now) inner.now }
+    ensures { result ≡ true → InheritsOpen (head_of node.now) inner.now }
 {
     if inner.way.is_some() && !is_pattern(node) {
         return false;
@@ -420,15 +425,15 @@ fn quiet(way: Option<Way>, around: usize) -> Open
 fn opened<'a>(node: &Node<'a>, field: u8, inner: &Open, around: usize, own: Option<usize>) -> Open
     ensures way { result.way
         ≡ cond (Declarations.is_pattern (head_of node.now)) inner.now.way
-        (kinds.way_in (head_of node.now) inner.now.variable inner.now.is_default) }
+        (kinds.head_way_in (head_of node.now) inner.now.variable inner.now.is_default) }
     ensures variable { result.variable
-        ≡ kinds.way_of_variable (head_of node.now) (kinds.is_field inner.now.head field) }
+        ≡ kinds.variable_way (head_of node.now) (kinds.is_in_field inner.now.head field) }
     ensures around { result.around ≡ around }
     ensures own { result.own ≡ own }
     ensures block { result.block ≡ kind_named (Scopes.block_in (head_of node.now)) }
     ensures default { result.is_default ≡ exports_default (head_of node.now) }
     ensures head { (place : ℕ) →
-        kinds.is_field result.head place ≡ Declarations.is_loop_head (head_of node.now) place }
+        kinds.is_in_field result.head place ≡ Declarations.is_loop_head (head_of node.now) place }
     ensures left { result.leaves_first_out ≡ kinds.leaves_first_out (head_of node.now) }
 {
     let way = if is_pattern(node) {
@@ -464,7 +469,7 @@ fn scope_in(node: &Open, field: u8) -> usize
 
 // The scope that a node makes, where it makes one.
 fn made_by<'a>(node: &Node<'a>, inner: &Open, around: usize, place: usize) -> Option<Scope>
-    ensures { option_map numbered result
+    ensures { option_map numbered_scope result
         ≡ option_map (in_scope place around)
         (kind_made (head_of node.now) inner.now.block inner.now.is_default) }
 {
@@ -508,12 +513,12 @@ fn declared_by(way: Option<Way>, place: usize, name: usize, scope: usize) -> Opt
 }
 
 // The name that an identifier has in a reading.
-fn name_of<'a>(reading: Reading, sym: &'a str, ctxt: u32) -> Name<'a>
+fn name_of<'a>(reading: Reading, sym: &'a str, ctxt: u32) -> NameKey<'a>
     ensures { name_as result ≡ Declarations.name_of (reading_as reading) sym.now ctxt }
 {
     match reading {
-        Reading::BySymbol => Name { sym, ctxt: None },
-        Reading::ByContext => Name {
+        Reading::BySymbol => NameKey { sym, ctxt: None },
+        Reading::ByContext => NameKey {
             sym,
             ctxt: Some(ctxt),
         },
@@ -522,10 +527,10 @@ fn name_of<'a>(reading: Reading, sym: &'a str, ctxt: u32) -> Name<'a>
 
 /// The number of a name, which it gets if it has none.
 pub(crate) fn number_of<'a>(
-    names: &mut IndexSet<Name<'a>, Mixed>,
-    name: Name<'a>,
+    names: &mut IndexSet<NameKey<'a>, Mixed>,
+    name: NameKey<'a>,
 ) -> Result<usize, AllocError>
-    ensures keeps { OnOk result (Keeps (map name_as names.old.keys) (map name_as names.new.keys)) }
+    ensures keeps { OnOk result (KeepsNumbers (map name_as names.old.keys) (map name_as names.new.keys)) }
     ensures once { OnOk result
         (StaysOnce (map name_as names.old.keys) (map name_as names.new.keys)) }
     ensures number { IfOk result (λ number.
@@ -537,19 +542,19 @@ pub(crate) fn number_of<'a>(
 
 // The declaration of a name for which no identifier stands.
 fn alone<'a>(
-    names: &mut IndexSet<Name<'a>, Mixed>,
+    names: &mut IndexSet<NameKey<'a>, Mixed>,
     sym: &'a str,
     way: Way,
     place: usize,
     scope: usize,
 ) -> Result<Declaration, AllocError>
-    ensures keeps { OnOk result (Keeps (map name_as names.old.keys) (map name_as names.new.keys)) }
+    ensures keeps { OnOk result (KeepsNumbers (map name_as names.old.keys) (map name_as names.new.keys)) }
     ensures once { OnOk result
         (StaysOnce (map name_as names.old.keys) (map name_as names.new.keys)) }
     ensures declaration { IfOk result
-        (IsAlone (map name_as names.new.keys) place scope way sym.now) }
+        (IsDeclaredAlone (map name_as names.new.keys) place scope way sym.now) }
 {
-    let name = number_of(names, Name { sym, ctxt: None })?;
+    let name = number_of(names, NameKey { sym, ctxt: None })?;
     Ok(Declaration {
         place,
         name,
@@ -560,12 +565,12 @@ fn alone<'a>(
 
 // The declaration of the default export without a name that begins with the first of these pieces, if one does.
 fn default_at<'a>(
-    names: &mut IndexSet<Name<'a>, Mixed>,
+    names: &mut IndexSet<NameKey<'a>, Mixed>,
     rest: &[Piece<'a>],
     place: usize,
     top: usize,
 ) -> Result<Option<Declaration>, AllocError>
-    ensures keeps { OnOk result (Keeps (map name_as names.old.keys) (map name_as names.new.keys)) }
+    ensures keeps { OnOk result (KeepsNumbers (map name_as names.old.keys) (map name_as names.new.keys)) }
     ensures once { OnOk result
         (StaysOnce (map name_as names.old.keys) (map name_as names.new.keys)) }
     ensures declaration { IfOk result
@@ -654,11 +659,11 @@ fn push_some(
 // Adds a scope where there is one, and answers its number.
 fn push_scope(scopes: &mut Vec<Scope>, made: Option<Scope>) -> Result<Option<usize>, AllocError>
     ensures items { OnOk result
-        (map numbered scopes.new.items
-        ≡ map numbered scopes.old.items ++ option_to_list (option_map numbered made)) }
+        (map numbered_scope scopes.new.items
+        ≡ map numbered_scope scopes.old.items ++ option_to_list (option_map numbered_scope made)) }
     ensures number { IfOk result (λ number.
         number
-        ≡ option_map (λ _. length (map numbered scopes.old.items)) (option_map numbered made)) }
+        ≡ option_map (λ _. length (map numbered_scope scopes.old.items)) (option_map numbered_scope made)) }
 {
     let Some(made) = made else {
         return Ok(None);
@@ -675,10 +680,10 @@ fn add_scope(
     begins: usize,
 ) -> Result<usize, AllocError>
     ensures items { OnOk result
-        (map numbered scopes.new.items
-        ≡ map numbered scopes.old.items
+        (map numbered_scope scopes.new.items
+        ≡ map numbered_scope scopes.old.items
         ++ record { scope = scope_as kind begins; outer = outer } ∷ []) }
-    ensures number { IfOk result (λ number. number ≡ length (map numbered scopes.old.items)) }
+    ensures number { IfOk result (λ number. number ≡ length (map numbered_scope scopes.old.items)) }
 {
     let number = scopes.len();
     scopes.push(Scope {

@@ -7,8 +7,7 @@ use Rattle.bundle_rules.specs.Declarations.{Name, contexts_agree, names_agree, D
 use Rattle.bundle_rules.specs.Homes.{home_of, is_declared_in, declares, is_arguments, is_function, has_implicit_arguments, binds}
 use Rattle.bundle_rules.specs.Denotes.{Bound, Global, bound_in, has_identifier, is_written_in, is_implied_in, written_or_implied, denoted_by_context}
 use Rattle.bundle_scope_names.proofs.Numbering.{Numbering, context_of, is_identified, lifted, lift_all, is_written, given}
-use Rattle.bundle_scope_names.proofs.Lists.{Each, list_any-map_each, list_any-and, list_any-implies, find-passes, find-nothing, find-same, find-none}
-use Rattle.bundle_scope_names.proofs.HomesLemmas.{IsBySymbol, home-lifted, names_agree-by_symbol, same_symbol, same_order}
+use Rattle.bundle_scope_names.proofs.HomesLemmas.{Each, list_any-map_each, list_any-and, list_any-implies, find-passes, find-nothing, find-same, find-none, IsBySymbol, home-lifted, names_agree-by_symbol, same_order, bytes_same as same_symbol}
 
 -- a name that is read by symbol, and one that is read by context too
 abbrev pub plain : List ℕ → Name

@@ -5,22 +5,20 @@ use Rattle.std.specs.List.{cons_option}
 use Rattle.std.proofs.Math.Seq.{take-append_seam}
 use Rattle.std.proofs.lemmas.Bool.{and_right}
 use Rattle.std.proofs.lemmas.Slice.Eq.{bytes_eq-Decides}
-use Rattle.bundle_tree_piece.specs.declared.piece.Role.{Role}
-use Rattle.bundle_tree_piece.specs.declared.piece.Role.TheVariants as r
-use Rattle.bundle_tree_piece.specs.Item as h
-use Rattle.bundle_tree_piece.specs.Item.{Item, Head}
+use Rattle.bundle_syntax.specs.declared.piece.Role.{Role}
+use Rattle.bundle_syntax.specs.declared.piece.Role.TheVariants as r
+use Rattle.bundle_syntax.specs.Item as h
+use Rattle.bundle_syntax.specs.Item.{Item, Head}
 use Rattle.bundle_rules.specs.Places.{Around, Spot, past, start, path_at, in_field, Occurrence, occurrence_of, occurrences_from, occurrences}
 use Rattle.bundle_rules.specs.Idents.{Ident, ident_of, idents}
 use Rattle.bundle_rules.specs.Shorthands.{ends_at, has_default, is_shorthand_in_pattern, symbol_of}
 use Rattle.bundle_rules.specs.Rebuilds.{Change, change_at, spells_out, is_key_spelled_out, pattern_front, new_begin, new_end, new_occurrence, new_item, rebuilt_from, rebuilt, changes_to, with_idents}
 use Rattle.bundle_rules.specs.Scopes.{ModuleKind, Scope, scope_order}
 use Rattle.bundle_rules.specs.Declarations.{BySymbol, Name, declared}
-use Rattle.bundle_rules.specs.Denotes.{Bound, denoted_of, denotations, IsResolutionOf}
+use Rattle.bundle_rules.specs.Denotes.{Bound, denoted_of, denotations}
 use Rattle.bundle_scope_names.specs.Resolution.{with_contexts}
 use Rattle.bundle_scope_names.proofs.Numbering.{Numbering, context_of, without_context, without_contexts, IsNumbered}
-use Rattle.bundle_scope_names.proofs.GivenLemmas.{its_context, occurrences-are}
-use Rattle.bundle_scope_names.proofs.Separation.{separation}
-use Rattle.bundle_scope_names.proofs.TreeLemmas.{set_by, IsLike, Same, Named, AreLike, Done, More, ctxts, like-past}
+use Rattle.bundle_scope_names.proofs.TreeLemmas.{its_context, occurrences-are, map-map as map-twice, set_by, IsLike, Same, Named, AreLike, Done, More, ctxts, like-past}
 
 -- the changes to other contexts: nothing is spelled out
 abbrev pub plain_changes : List Occurrence → List ℕ → List Change
@@ -55,7 +53,7 @@ name-takes field [] is_last x c n role = refl
 name-takes field (node ∷ outer) is_last x c n role = refl
 
 -- the occurrences of two lists in a row
-occurrences-append : (spot : Spot) (xs ys : List Item) → occurrences_from spot (xs ++ ys) ≡ occurrences_from spot xs ++ occurrences_from (fold past spot xs) ys
+pub occurrences-append : (spot : Spot) (xs ys : List Item) → occurrences_from spot (xs ++ ys) ≡ occurrences_from spot xs ++ occurrences_from (fold past spot xs) ys
 occurrences-append spot [] ys = refl
 occurrences-append spot (x ∷ xs) ys = ap (cons_option (occurrence_of spot x)) (occurrences-append (past spot x) xs ys) ∙ cons-append (occurrence_of spot x) (occurrences_from (past spot x) xs) _
   where
@@ -98,7 +96,7 @@ fold-append : (spot : Spot) (xs : List Item) (x : Item) → fold past spot (xs +
 fold-append spot [] x = refl
 fold-append spot (y ∷ ys) x = fold-append (past spot y) ys x
 
-length-snoc : {A : Type 0} (xs : List A) (x : A) → length (xs ++ x ∷ []) ≡ suc (length xs)
+pub length-snoc : {A : Type 0} (xs : List A) (x : A) → length (xs ++ x ∷ []) ≡ suc (length xs)
 length-snoc [] x = refl
 length-snoc (y ∷ ys) x = ap suc (length-snoc ys x)
 
@@ -182,25 +180,13 @@ numbered f kind before own apart =
       apart = apart;
     }
 
--- the whole: it is a resolution of the tree before
-pub resolved-by : (f : Numbering) (kind : ModuleKind) (before : List Item) → ((i : ℕ) (s : Scope) (m : Name) → slice_get (denotations BySymbol kind before) i ≡ Some (Bound s m) → f (scope_order s) m.sym ≢ 1) → ((i j : ℕ) (s t : Scope) (m n : Name) → slice_get (denotations BySymbol kind before) i ≡ Some (Bound s m) → slice_get (denotations BySymbol kind before) j ≡ Some (Bound t n) → m.sym ≡ n.sym → f (scope_order s) m.sym ≡ f (scope_order t) n.sym → scope_order s ≡ scope_order t) → IsResolutionOf kind before (resolved_by f kind before)
-resolved-by f kind before own apart = separation f kind before (resolved_by f kind before) (numbered f kind before own apart)
-
 -- and it has just these identifiers: it is the tree before with the identifiers that it has
 idents-set : (g : Occurrence → ℕ) (os : List Occurrence) → map ident_of (map (set_by g) os) ≡ with_contexts os (map g os)
 idents-set g [] = refl
 idents-set g (o ∷ os) = ap (λ is. (o.sym, g o) ∷ is) (idents-set g os)
-
-map-twice : {A B C : Type 0} (g : B → C) (k : A → B) (xs : List A) → map g (map k xs) ≡ map (λ x. g (k x)) xs
-map-twice g k [] = refl
-map-twice g k (x ∷ xs) = ap (λ ys. g (k x) ∷ ys) (map-twice g k xs)
 
 pub same-idents : (f : Numbering) (kind : ModuleKind) (before after : List Item) → IsNumbered f kind before after → idents after ≡ with_contexts (occurrences before) (map (context_of f) (denotations BySymbol kind before))
 same-idents f kind before after n =
     ap (map ident_of) (occurrences-are f kind before after n)
     ∙ idents-set (its_context f kind (declared BySymbol kind before)) (occurrences before)
     ∙ ap (with_contexts (occurrences before)) (sym (map-twice (context_of f) (denoted_of BySymbol kind (declared BySymbol kind before)) (occurrences before)))
-
--- the clause `same` of the resolver as it is proposed
-pub keeps-tree : (f : Numbering) (kind : ModuleKind) (before : List Item) → IsNumbered f kind before (resolved_by f kind before) → resolved_by f kind before ≡ with_idents before (idents (resolved_by f kind before))
-keeps-tree f kind before n = ap (with_idents before) (sym (same-idents f kind before (resolved_by f kind before) n))

@@ -7,12 +7,12 @@ use Rattle.std.proofs.lemmas.List.Elements.{filter-append}
 use Rattle.std.proofs.lemmas.List.{map-append}
 use Rattle.bundle_scope_denote.specs.declared.table.Denoted.{Denoted}
 use Rattle.bundle_tree_places.proofs.ListLemmas.{take_at}
-use Rattle.bundle_scope_names.specs.Turns.{declares, denotes, is_number, first_of, first_after}
-use Rattle.bundle_scope_names.specs.Marks.{uses_of}
+use Rattle.bundle_scope_names.specs.Turns.{declares_number, denotes, is_this_number, first_of, first_after}
+use Rattle.bundle_scope_names.specs.Marks.{binding_scopes}
 
 -- the scopes of a binding's occurrences once one more was gone over
-pub uses-more : (occurrences : List Denoted) (i number : ℕ) (o : Denoted) → slice_get occurrences i ≡ Some o → uses_of (take (suc i) occurrences) number ≡ uses_of (take i occurrences) number ++ cond (is_number number o.binding) (o.scope ∷ []) []
-uses-more occurrences i number o at = ap (λ xs. uses_of xs number) (take_at occurrences i o at) ∙ ap (map (λ (x : Denoted). x.scope)) (filter-append (denotes number) (take i occurrences) (o ∷ [])) ∙ map-append (λ (x : Denoted). x.scope) (filter (denotes number) (take i occurrences)) (filter (denotes number) (o ∷ [])) ∙ ap (λ xs. uses_of (take i occurrences) number ++ xs) (one (is_number number o.binding))
+pub uses-more : (occurrences : List Denoted) (i number : ℕ) (o : Denoted) → slice_get occurrences i ≡ Some o → binding_scopes (take (suc i) occurrences) number ≡ binding_scopes (take i occurrences) number ++ cond (is_this_number number o.binding) (o.scope ∷ []) []
+uses-more occurrences i number o at = ap (λ xs. binding_scopes xs number) (take_at occurrences i o at) ∙ ap (map (λ (x : Denoted). x.scope)) (filter-append (denotes number) (take i occurrences) (o ∷ [])) ∙ map-append (λ (x : Denoted). x.scope) (filter (denotes number) (take i occurrences)) (filter (denotes number) (o ∷ [])) ∙ ap (λ xs. binding_scopes (take i occurrences) number ++ xs) (one (is_this_number number o.binding))
   where
     one : (b : Bool) → map (λ (x : Denoted). x.scope) (cond b (o ∷ []) []) ≡ cond b (o.scope ∷ []) []
     one true = refl
@@ -20,7 +20,7 @@ uses-more occurrences i number o at = ap (λ xs. uses_of xs number) (take_at occ
 
 -- the first place once one more was gone over
 pub first-more : (occurrences : List Denoted) (i number : ℕ) (o : Denoted) → slice_get occurrences i ≡ Some o → first_of (take (suc i) occurrences) number ≡ first_after o number (first_of (take i occurrences) number)
-first-more occurrences i number o at = ap (λ xs. first_of xs number) (take_at occurrences i o at) ∙ ap (option_map (λ (x : Denoted). x.place)) (find-append (declares number) (take i occurrences) (o ∷ [])) ∙ join (find (declares number) (take i occurrences)) (declares number o)
+first-more occurrences i number o at = ap (λ xs. first_of xs number) (take_at occurrences i o at) ∙ ap (option_map (λ (x : Denoted). x.place)) (find-append (declares_number number) (take i occurrences) (o ∷ [])) ∙ join (find (declares_number number) (take i occurrences)) (declares_number number o)
   where
     join : (f : Option Denoted) (b : Bool) → option_map (λ (x : Denoted). x.place) (option_or f (cond b (Some o) None)) ≡ option_or (option_map (λ (x : Denoted). x.place) f) (cond b (Some o.place) None)
     join None true = refl

@@ -1,13 +1,13 @@
 -- Contexts by a numbering of the bindings of a tree.
-use Rattle.std.specs.Prelude.{◌≡◌, ◌≢◌, ℕ, Bool as Truth, true, false, cond, ◌&&◌, List, [], ◌∷◌, Option, Some, None, bytes_eq, map, slice_get}
+use Rattle.std.specs.Prelude.{◌≡◌, ◌≢◌, ℕ, Bool as Truth, true, false, cond, ◌&&◌, List, [], ◌∷◌, Some, None, bytes_eq, map, slice_get}
 use Rattle.std.specs.List.{list_any}
-use Rattle.bundle_tree_piece.specs.Item as h
-use Rattle.bundle_tree_piece.specs.Item.{Item}
+use Rattle.bundle_syntax.specs.Item as h
+use Rattle.bundle_syntax.specs.Item.{Item}
 use Rattle.bundle_rules.specs.Places.{Occurrence, occurrences}
 use Rattle.bundle_rules.specs.Scopes.{ModuleKind, Scope, scope_order, same_scope}
 use Rattle.bundle_rules.specs.Declarations.{Way, ByDefault, ByWrapper, BySymbol, Name, Declared}
 use Rattle.bundle_rules.specs.Homes.{home_of}
-use Rattle.bundle_rules.specs.Denotes.{Denoted, Bound, Global, denoted_of, denotations}
+use Rattle.bundle_rules.specs.Denotes.{Denoted, Bound, Global, denotations}
 
 -- a numbering gives each binding its context, by the order of its scope and by its symbol
 abbrev pub Numbering : Type 0
@@ -40,10 +40,6 @@ is_written all scope sym = list_any (λ (d : Declared). is_identified d.by && (s
 abbrev pub given : Numbering → List Declared → Denoted → Denoted
 given f all (Global sym) = Global sym
 given f all (Bound scope name) = Bound scope (record { sym = name.sym; ctxt = cond (is_written all scope name.sym) (Some (f (scope_order scope) name.sym)) None })
-
--- an occurrence with the context that is given to it
-abbrev pub occurrence_given : Numbering → ModuleKind → List Declared → Occurrence → Occurrence
-occurrence_given f kind all o = record o { ctxt = context_of f (denoted_of BySymbol kind all o) }
 
 -- an element without its context; a tree so
 abbrev pub without_context : Item → Item

@@ -1,11 +1,11 @@
 -- Numbers for bindings tell them apart.
-use Rattle.std.proofs.Common.{◌≡◌, ◌≢◌, ◌≤◌, ◌<◌, ◌⊎◌, inl, inr, ℕ, zero, suc, ◌+◌, ◌==◌, ◌&&◌, Bool, true, false, cond, List, [], ◌∷◌, Option, Some, None, option_map, length, map, bytes_eq, refl, ap, sym, ◌∙◌, subst, eqb-true, eq-eqb, arith}
+use Rattle.std.proofs.Common.{◌≡◌, ◌≢◌, ◌≤◌, ℕ, zero, suc, ◌==◌, ◌&&◌, Bool, true, false, cond, List, [], ◌∷◌, Option, Some, None, option_map, length, map, bytes_eq, refl, ap, sym, ◌∙◌, subst, eqb-true, eq-eqb, arith}
 use Rattle.std.specs.Prelude.{slice_get, unwrap_or}
 use Rattle.std.specs.List.{AllZip}
 use Rattle.std.proofs.lemmas.Bool.{and_from, and_parts}
 use Rattle.std.proofs.lemmas.Option.{none-some, same_Some, slice_get-map, slice_get_within}
 use Rattle.std.proofs.lemmas.Slice.Eq.{bytes_eq-Decides}
-use Rattle.bundle_tree_piece.specs.Item.{Item}
+use Rattle.bundle_syntax.specs.Item.{Item}
 use Rattle.bundle_rules.specs.Places.{start, Occurrence, occurrences}
 use Rattle.bundle_rules.specs.Scopes.{ModuleKind, Scope, Wrapper, Top, Inner, scope_order}
 use Rattle.bundle_rules.specs.Declarations.{BySymbol, Name, declared}
@@ -14,17 +14,16 @@ use Rattle.bundle_rules.specs.Denotes.{Denoted, Bound, Global, denoted_of, denot
 use Rattle.bundle_scope_denote.specs.declared.table.Binding.{Binding}
 use Rattle.bundle_scope_denote.specs.declared.table.Denoted.{Denoted as Entry}
 use Rattle.bundle_scope_denote.specs.declared.table.Denotations.{Denotations}
-use Rattle.bundle_scope_denote.specs.Numbers.{numbered}
-use Rattle.bundle_scope_denote.specs.Chains.{scope_at, passes}
-use Rattle.bundle_scope_denote.specs.Listed.{IsBinding, IsDenoted, Tells, IsTable}
+use Rattle.bundle_scope_denote.specs.Numbers.{numbered_scope}
+use Rattle.bundle_scope_denote.specs.Chains.{numbered_scope_at, passes}
+use Rattle.bundle_scope_denote.specs.Listed.{IsBinding, IsDenoted, TellsDenoted, IsDenotationTable}
 use Rattle.bundle_scope_denote.proofs.ZipLemmas.{AllZip-at, AllZip-at_second}
-use Rattle.bundle_scope_names.specs.Numbering.{is_of_top, number_in, HasContext, IsNumbered}
-use Rattle.bundle_scope_names.specs.Resolution.{AreFit}
+use Rattle.bundle_scope_names.specs.Numbering.{is_of_top, binding_number, HasContext}
+use Rattle.bundle_scope_names.specs.Resolution.{AreContextsFit}
 use Rattle.bundle_scope_names.proofs.Numbering.{context_of}
 use Rattle.bundle_scope_names.proofs.FoundLemmas.{plain}
-use Rattle.bundle_scope_names.proofs.KindsLemmas.{Table, DenotesOf, denoted-known, same-of, kind_in, occurrences-known}
-use Rattle.bundle_scope_names.proofs.Separation.{IsFor, denoted-for}
-use Rattle.bundle_scope_names.proofs.NumberLemmas.{number-within, number-one}
+use Rattle.bundle_scope_names.proofs.TreeLemmas.{DenotesOf, denoted-known, same-of, kind_in, occurrences-known, IsFor, denoted-for}
+use Rattle.bundle_scope_names.proofs.KnowsLemmas.{number-within, number-one}
 
 -- Contexts beside what is denoted, as a function of scope and symbol.
 
@@ -83,7 +82,7 @@ zip-from R [] (y ∷ ys) len each = absurd (omega (arith, len))
 zip-from R (x ∷ xs) [] len each = absurd (omega (arith, len))
 zip-from R (x ∷ xs) (y ∷ ys) len each = (each 0 x y refl refl, zip-from R xs ys (omega (arith, len)) (λ i a b. each (suc i) a b))
 
-zip-length : {A B : Type 0} (R : A → B → Type 0) (xs : List A) (ys : List B) → AllZip R xs ys → length xs ≡ length ys
+pub zip-length : {A B : Type 0} (R : A → B → Type 0) (xs : List A) (ys : List B) → AllZip R xs ys → length xs ≡ length ys
 zip-length R [] [] all = refl
 zip-length R [] (y ∷ ys) all = absurd all
 zip-length R (x ∷ xs) [] all = absurd all
@@ -97,19 +96,19 @@ top-only Top e = refl
 top-only Wrapper e = absurd cc
 top-only (Inner k b) e = absurd cc
 
-module _ (kind : ModuleKind) (items : List Item) (table : Denotations) (t : IsTable BySymbol kind items table) where
+module _ (kind : ModuleKind) (items : List Item) (table : Denotations) (t : IsDenotationTable BySymbol kind items table) where
   abbrev Is : ℕ → Scope → Name → Type 0
-  Is number scope name = IsBinding (map numbered table.scopes.items) table.bindings.items number scope name
+  Is number scope name = IsBinding (map numbered_scope table.scopes.items) table.bindings.items number scope name
 
   -- whether a binding is of the top is whether its scope is
   pub top-of : (number : ℕ) (scope : Scope) (name : Name) → Is number scope name → is_of_top table number ≡ is_top scope
   top-of number scope name b =
-      ap (λ o. unwrap_or (option_map (λ (binding : Binding). passes is_top (map numbered table.scopes.items) binding.scope) o) false) b.at
+      ap (λ o. unwrap_or (option_map (λ (binding : Binding). passes is_top (map numbered_scope table.scopes.items) binding.scope) o) false) b.at
       ∙ ap (λ o. unwrap_or (option_map is_top o) false) b.in_scope
 
   -- one binding is of one scope
   pub scope-of : (number : ℕ) (s r : Scope) (m n : Name) → Is number s m → Is number r n → s ≡ r
-  scope-of number s r m n a b = same_Some s r (sym a.in_scope ∙ ap (λ (x : Binding). scope_at (map numbered table.scopes.items) x.scope) (same_Some a.binding b.binding (sym a.at ∙ b.at)) ∙ b.in_scope)
+  scope-of number s r m n a b = same_Some s r (sym a.in_scope ∙ ap (λ (x : Binding). numbered_scope_at (map numbered_scope table.scopes.items) x.scope) (same_Some a.binding b.binding (sym a.at ∙ b.at)) ∙ b.in_scope)
 
   -- what is denoted is known, and has a plain name
   pub record IsSound (d : Denoted) : Type 0 where
@@ -139,7 +138,7 @@ module _ (kind : ModuleKind) (items : List Item) (table : Denotations) (t : IsTa
       (same-of (kind_in start items) s r a.known b.known order, first ∙ ap plain symbols ∙ sym second)
 
   -- Contexts that follow a numbering.
-  module _ (local next later : ℕ) (given : List ℕ) (cs : List ℕ) (fit : AreFit local next) (each : AllZip (λ (entry : Entry) (context : ℕ). HasContext table local next given entry.binding context) table.occurrences.items cs) where
+  module _ (local next later : ℕ) (given : List ℕ) (cs : List ℕ) (fit : AreContextsFit local next) (each : AllZip (λ (entry : Entry) (context : ℕ). HasContext table local next given entry.binding context) table.occurrences.items cs) where
     abbrev ds : List Denoted
     ds = denotations BySymbol kind items
 
@@ -149,30 +148,30 @@ module _ (kind : ModuleKind) (items : List Item) (table : Denotations) (t : IsTa
     -- what a context follows from
     abbrev pub Follows : Denoted → ℕ → Type 0
     Follows (Global x) c = c ≡ 1
-    Follows (Bound s m) c = (b : ℕ) × Is b s m × (cond (is_top s) (Some local) (number_in next given b) ≡ Some c)
+    Follows (Bound s m) c = (b : ℕ) × Is b s m × (cond (is_top s) (Some local) (binding_number next given b) ≡ Some c)
 
-    follows-by : (entry : Entry) (binding : Option ℕ) (d : Denoted) (c : ℕ) → entry.binding ≡ binding → Tells (map numbered table.scopes.items) table.bindings.items entry d → HasContext table local next given entry.binding c → Follows d c
+    follows-by : (entry : Entry) (binding : Option ℕ) (d : Denoted) (c : ℕ) → entry.binding ≡ binding → TellsDenoted (map numbered_scope table.scopes.items) table.bindings.items entry d → HasContext table local next given entry.binding c → Follows d c
     follows-by entry None (Global x) c is tells has = subst (λ b. HasContext table local next given b c) is has
-    follows-by entry None (Bound s m) c is tells has = absurd (subst (λ b. IsDenoted (map numbered table.scopes.items) table.bindings.items b (Bound s m)) is tells)
-    follows-by entry (Some b) (Global x) c is tells has = absurd (subst (λ b. IsDenoted (map numbered table.scopes.items) table.bindings.items b (Global x)) is tells)
+    follows-by entry None (Bound s m) c is tells has = absurd (subst (λ b. IsDenoted (map numbered_scope table.scopes.items) table.bindings.items b (Bound s m)) is tells)
+    follows-by entry (Some b) (Global x) c is tells has = absurd (subst (λ b. IsDenoted (map numbered_scope table.scopes.items) table.bindings.items b (Global x)) is tells)
     follows-by entry (Some b) (Bound s m) c is tells has =
-        let bound : Is b s m = subst (λ b. IsDenoted (map numbered table.scopes.items) table.bindings.items b (Bound s m)) is tells in
-        (b, bound, ap (λ o. cond o (Some local) (number_in next given b)) (sym (top-of b s m bound)) ∙ subst (λ b. HasContext table local next given b c) is has)
+        let bound : Is b s m = subst (λ b. IsDenoted (map numbered_scope table.scopes.items) table.bindings.items b (Bound s m)) is tells in
+        (b, bound, ap (λ o. cond o (Some local) (binding_number next given b)) (sym (top-of b s m bound)) ∙ subst (λ b. HasContext table local next given b c) is has)
 
     -- at each place
     pub follows-at : (i : ℕ) (d : Denoted) (c : ℕ) → slice_get (denotations BySymbol kind items) i ≡ Some d → slice_get cs i ≡ Some c → Follows d c
     follows-at i d c at there =
-        let entry = AllZip-at_second (Tells (map numbered table.scopes.items) table.bindings.items) table.occurrences.items (denotations BySymbol kind items) i d t.denotes at in
+        let entry = AllZip-at_second (TellsDenoted (map numbered_scope table.scopes.items) table.bindings.items) table.occurrences.items (denotations BySymbol kind items) i d t.denotes at in
         let context = AllZip-at (λ (entry : Entry) (context : ℕ). HasContext table local next given entry.binding context) table.occurrences.items cs i entry.0 each entry.1 in
         follows-by entry.0 entry.0.binding d c refl entry.2 (subst (λ k. HasContext table local next given entry.0.binding k) (same_Some context.0 c (sym context.1 ∙ there)) context.2)
 
     pub as-many : length cs ≡ length (denotations BySymbol kind items)
-    as-many = sym (zip-length (λ (entry : Entry) (context : ℕ). HasContext table local next given entry.binding context) table.occurrences.items cs each) ∙ zip-length (Tells (map numbered table.scopes.items) table.bindings.items) table.occurrences.items (denotations BySymbol kind items) t.denotes
+    as-many = sym (zip-length (λ (entry : Entry) (context : ℕ). HasContext table local next given entry.binding context) table.occurrences.items cs each) ∙ zip-length (TellsDenoted (map numbered_scope table.scopes.items) table.bindings.items) table.occurrences.items (denotations BySymbol kind items) t.denotes
 
     -- so each place has a context
     pub context-at : (i : ℕ) (d : Denoted) → slice_get (denotations BySymbol kind items) i ≡ Some d → (c : ℕ) × (slice_get cs i ≡ Some c) × Follows d c
     context-at i d at =
-        let entry = AllZip-at_second (Tells (map numbered table.scopes.items) table.bindings.items) table.occurrences.items (denotations BySymbol kind items) i d t.denotes at in
+        let entry = AllZip-at_second (TellsDenoted (map numbered_scope table.scopes.items) table.bindings.items) table.occurrences.items (denotations BySymbol kind items) i d t.denotes at in
         let context = AllZip-at (λ (entry : Entry) (context : ℕ). HasContext table local next given entry.binding context) table.occurrences.items cs i entry.0 each entry.1 in
         (context.0, context.1, follows-at i d context.0 at context.1)
 
@@ -180,7 +179,7 @@ module _ (kind : ModuleKind) (items : List Item) (table : Denotations) (t : IsTa
     follows-one : (s : Scope) (m : Name) (c e : ℕ) → Follows (Bound s m) c → Follows (Bound s m) e → c ≡ e
     follows-one s m c e a b =
         let same : a.0 ≡ b.0 = t.one a.0 b.0 s m a.1 b.1 in
-        same_Some c e (sym a.2 ∙ ap (λ k. cond (is_top s) (Some local) (number_in next given k)) same ∙ b.2)
+        same_Some c e (sym a.2 ∙ ap (λ k. cond (is_top s) (Some local) (binding_number next given k)) same ∙ b.2)
 
     -- the function gives it
     pub number-is : (i : ℕ) (s : Scope) (m : Name) (c : ℕ) → slice_get (denotations BySymbol kind items) i ≡ Some (Bound s m) → slice_get cs i ≡ Some c → number (scope_order s) m.sym ≡ c
@@ -223,7 +222,7 @@ module _ (kind : ModuleKind) (items : List Item) (table : Denotations) (t : IsTa
     follows-own : (s : Scope) (m : Name) (c : ℕ) → Follows (Bound s m) c → c ≢ 1
     follows-own s m c follows = by_top (is_top s) follows.2
       where
-        by_top : (b : Bool) → cond b (Some local) (number_in next given follows.0) ≡ Some c → c ≢ 1
+        by_top : (b : Bool) → cond b (Some local) (binding_number next given follows.0) ≡ Some c → c ≢ 1
         by_top true is = λ e. fit.apart (same_Some local c is ∙ e)
         by_top false is = λ e. let within = number-within next given follows.0 c is in omega (arith, within.0, fit.above, e)
 
@@ -234,7 +233,7 @@ module _ (kind : ModuleKind) (items : List Item) (table : Denotations) (t : IsTa
     follows-apart : (s r : Scope) (m n : Name) (c : ℕ) → Follows (Bound s m) c → Follows (Bound r n) c → s ≡ r
     follows-apart s r m n c a b = by_tops (is_top s) (is_top r) refl refl a.2 b.2
       where
-        by_tops : (x y : Bool) → is_top s ≡ x → is_top r ≡ y → cond x (Some local) (number_in next given a.0) ≡ Some c → cond y (Some local) (number_in next given b.0) ≡ Some c → s ≡ r
+        by_tops : (x y : Bool) → is_top s ≡ x → is_top r ≡ y → cond x (Some local) (binding_number next given a.0) ≡ Some c → cond y (Some local) (binding_number next given b.0) ≡ Some c → s ≡ r
         by_tops true true top other one two = top-only s top ∙ sym (top-only r other)
         by_tops true false top other one two = let within = number-within next given b.0 c two in let same : local ≡ c = same_Some local c one in absurd (omega (arith, within.0, fit.beyond, same))
         by_tops false true top other one two = let within = number-within next given a.0 c one in let same : local ≡ c = same_Some local c two in absurd (omega (arith, within.0, fit.beyond, same))

@@ -2,13 +2,13 @@
 use Rattle.std.specs.Prelude.{◌≡◌, ◌<◌, ◌≤◌, ℕ, ◌==◌, ◌&&◌, ◌||◌, Bool, true, false, List, Option, Some, None, bytes_eq, length, slice_get, option_and_then, MatchBool}
 use Rattle.std.specs.Borrow.{Bor}
 use Rattle.std.specs.List.{list_any}
-use Rattle.bundle_tree_piece.specs.declared.piece.Role.{Role}
-use Rattle.bundle_tree_piece.specs.declared.piece.Role.TheVariants as o
-use Rattle.bundle_tree_piece.specs.Item as h
-use Rattle.bundle_tree_piece.specs.Item.{Item}
+use Rattle.bundle_syntax.specs.declared.piece.Role.{Role}
+use Rattle.bundle_syntax.specs.declared.piece.Role.TheVariants as o
+use Rattle.bundle_syntax.specs.Item as h
+use Rattle.bundle_syntax.specs.Item.{Item}
 use Rattle.bundle_rules.specs.Nodes.{Text}
 use Rattle.bundle_scope_denote.specs.declared.table.Binding.{Binding}
-use Rattle.bundle_scope_names.specs.declared.keywords.Taken.{Taken}
+use Rattle.bundle_scope_names.specs.declared.keywords.TakenNames.{TakenNames}
 use Rattle.bundle_scope_names.specs.Called.{at}
 
 -- whether an identifier binds or refers
@@ -22,15 +22,16 @@ abbrev pub has_context : ℕ → Item → Bool
 has_context ctxt (h.Ident field sym its role) = occurs role && ctxt == its
 has_context ctxt _ = false
 
-abbrev pub has_name : Text → ℕ → Item → Bool
-has_name text ctxt (h.Ident field sym its role) = occurs role && (ctxt == its && bytes_eq text sym)
-has_name text ctxt _ = false
+abbrev pub has_occurrence : Text → ℕ → Item → Bool
+has_occurrence text ctxt (h.Ident field sym its role) =
+    occurs role && (ctxt == its && bytes_eq text sym)
+has_occurrence text ctxt _ = false
 
 -- whether some identifier has a new symbol with the context that it had before
 abbrev pub collides : List Item → Option Text → Option ℕ → Bool
 collides items None ctxt = false
 collides items (Some text) None = false
-collides items (Some text) (Some ctxt) = list_any (has_name text ctxt) items
+collides items (Some text) (Some ctxt) = list_any (has_occurrence text ctxt) items
 
 -- a context from 2 on that no identifier has
 abbrev pub IsFresh : List Item → Option ℕ → Type 0
@@ -53,25 +54,25 @@ pub record AreContexts (items : List Item) (bindings : List Binding) (texts : Li
   pub apart : (i j ctxt : ℕ) → at contexts i ≡ Some ctxt → at contexts j ≡ Some ctxt → i ≡ j
 
 -- whether a symbol stands with a context in a table
-abbrev pub has : ℕ → Text → List (ℕ × Bor Text) → Bool
-has ctxt text names = list_any (λ name. ctxt == name.0 && bytes_eq text name.1.now) names
+abbrev pub has_symbol_at : ℕ → Text → List (ℕ × Bor Text) → Bool
+has_symbol_at ctxt text names = list_any (λ name. ctxt == name.0 && bytes_eq text name.1.now) names
 
 -- which names and which contexts a list has
-pub record KnowsNames (items : List Item) (taken : Taken) : Type 0 where
-  pub names : (ctxt : ℕ) (text : Text) → has ctxt text taken.names.keys ≡ list_any (has_name text ctxt) items
+pub record KnowsNames (items : List Item) (taken : TakenNames) : Type 0 where
+  pub names : (ctxt : ℕ) (text : Text) → has_symbol_at ctxt text taken.names.keys ≡ list_any (has_occurrence text ctxt) items
   pub contexts : (ctxt : ℕ) →
       list_any (λ other. ctxt == other) taken.contexts.keys ≡ list_any (has_context ctxt) items
 
 -- those of an element are added
-pub record AddsNames (item : Item) (old new : Taken) : Type 0 where
+pub record AddsNames (item : Item) (old new : TakenNames) : Type 0 where
   pub names : (ctxt : ℕ) (text : Text) →
-      has ctxt text new.names.keys ≡ (has ctxt text old.names.keys || has_name text ctxt item)
+      has_symbol_at ctxt text new.names.keys ≡ (has_symbol_at ctxt text old.names.keys || has_occurrence text ctxt item)
   pub contexts : (ctxt : ℕ) →
       list_any (λ other. ctxt == other) new.contexts.keys ≡ (list_any (λ other. ctxt == other) old.contexts.keys || has_context ctxt item)
   pub next : new.next ≡ old.next
 
 -- a context is taken, and later ones are higher
-pub record TakesNext (old new : Taken) (ctxt : ℕ) : Type 0 where
+pub record TakesNext (old new : TakenNames) (ctxt : ℕ) : Type 0 where
   pub from : old.next ≤ ctxt
   pub below : ctxt < new.next
   pub free : list_any (λ other. ctxt == other) old.contexts.keys ≡ false
@@ -79,8 +80,8 @@ pub record TakesNext (old new : Taken) (ctxt : ℕ) : Type 0 where
   pub contexts : new.contexts.keys ≡ old.contexts.keys
 
 -- it is taken where it has to be, or nothing changes
-abbrev pub Answers : (collides : Bool) → (old new : Taken) → Option ℕ → Type 0
-Answers true old new (Some ctxt) = TakesNext old new ctxt
-Answers true old new None = ⊥
-Answers false old new (Some ctxt) = ⊥
-Answers false old new None = new ≡ old
+abbrev pub AnswersCollision : (collides : Bool) → (old new : TakenNames) → Option ℕ → Type 0
+AnswersCollision true old new (Some ctxt) = TakesNext old new ctxt
+AnswersCollision true old new None = ⊥
+AnswersCollision false old new (Some ctxt) = ⊥
+AnswersCollision false old new None = new ≡ old

@@ -7,3 +7,5 @@ pub mod Resolution
 pub mod Uses
 pub mod Symbols
 pub mod Changed
+pub mod Undoubled
+pub mod fit

@@ -4,7 +4,7 @@ use Rattle.bundle_scope_denote.specs.declared.table.Denoted.{Denoted}
 use Rattle.bundle_scope_names.specs.declared.uses.Uses.{Uses}
 use Rattle.bundle_scope_names.specs.Called.{at}
 use Rattle.bundle_scope_names.specs.Turns.{denotes}
-use Rattle.bundle_scope_names.specs.Marks.{uses_of}
+use Rattle.bundle_scope_names.specs.Marks.{binding_scopes}
 
 -- how many occurrences come up to one
 abbrev pub up_to : Option ℕ → ℕ
@@ -12,8 +12,9 @@ up_to None = 0
 up_to (Some number) = suc number
 
 -- of so many occurrences this is the last one that denotes a binding
-pub record IsLast (occurrences : List Denoted) (binding count : ℕ) (found : Option ℕ) : Type 0 where
-  pub uses : uses_of (take count occurrences) binding ≡ uses_of (take (up_to found) occurrences) binding
+pub record IsLastUse (occurrences : List Denoted) (binding count : ℕ)
+    (found : Option ℕ) : Type 0 where
+  pub uses : binding_scopes (take count occurrences) binding ≡ binding_scopes (take (up_to found) occurrences) binding
   pub within : (number : ℕ) → found ≡ Some number → number < count
   pub own : (number : ℕ) →
       found ≡ Some number →
@@ -23,9 +24,9 @@ pub record IsLast (occurrences : List Denoted) (binding count : ℕ) (found : Op
 pub record AreUses (occurrences : List Denoted) (uses : Uses) : Type 0 where
   pub last : (binding : ℕ) →
       binding < length uses.last.items →
-      IsLast occurrences binding (length occurrences) (at uses.last.items binding)
+      IsLastUse occurrences binding (length occurrences) (at uses.last.items binding)
   pub before : (binding number : ℕ) (o : Denoted) →
       binding < length uses.last.items →
       slice_get occurrences number ≡ Some o →
       denotes binding o ≡ true →
-      IsLast occurrences binding number (at uses.before.items number)
+      IsLastUse occurrences binding number (at uses.before.items number)

@@ -1,19 +1,19 @@
 //! Contexts for the occurrences of a list: one number for each binding.
 
 ghost use Rattle.std.specs.Prelude.{◌≡◌, ◌≤◌, ◌<◌, IfOk, IfSome, length, map};
-ghost use Rattle.bundle_tree_piece.specs.Item.{item_of};
+ghost use Rattle.bundle_syntax.specs.Item.{item_of};
 ghost use Rattle.bundle_scope_denote.specs.Kinds.{kind_as};
 ghost use Rattle.bundle_scope_names.specs.Numbering as numbering;
-ghost use Rattle.bundle_scope_names.specs.Numbering.{AnswersNumbers, AreWithin, GivesContext, GivesNumber, HasNone};
+ghost use Rattle.bundle_scope_names.specs.Numbering.{AnswersNumbers, AreBindingsWithin, GivesContext, GivesNumber, HasNoNumbers};
 ghost use Rattle.bundle_scope_names.specs.Resolution.{ResolvesFit};
 
 use bundle_scope_denote::{Denotations, ModuleKind, Reading, ScopeKind, denotations};
-use bundle_tree_piece::Piece;
+use bundle_syntax::Piece;
 use std::alloc::{AllocError, Global};
 
 /// Contexts for the occurrences of a list, in turn, and the number after the last that was given.
 #[derive(Drop)]
-pub struct Resolution {
+pub struct ContextsGiven {
     pub contexts: Vec<u32>,
     pub next: u32,
 }
@@ -30,7 +30,7 @@ pub fn contexts_of<'a>(
     kind: ModuleKind,
     local: u32,
     next: u32,
-) -> Result<Option<Resolution>, AllocError>
+) -> Result<Option<ContextsGiven>, AllocError>
     ensures resolves { IfOk result
         (ResolvesFit (kind_as kind) (map item_of pieces.now) local next) }
     ensures rises { IfOk result (λ answer.
@@ -46,11 +46,11 @@ fn numbered<'a>(
     table: &Denotations<'a>,
     local: u32,
     next: u32,
-) -> Result<Option<Resolution>, AllocError>
-    requires { AreWithin table.now }
+) -> Result<Option<ContextsGiven>, AllocError>
+    requires { AreBindingsWithin table.now }
     ensures { IfOk result (AnswersNumbers table.now local next) }
 {
-    let mut numbers = Numbers::new(alloc, table.bindings.len(), next)?;
+    let mut numbers = ContextNumbers::new(alloc, table.bindings.len(), next)?;
     let mut contexts = Vec::new(alloc);
     for occurrence in &table.occurrences {
         let Some(context) = numbers.context_of(table, local, occurrence.binding) else {
@@ -58,7 +58,7 @@ fn numbered<'a>(
         };
         contexts.push(context)?;
     }
-    Ok(Some(Resolution {
+    Ok(Some(ContextsGiven {
         contexts,
         next: numbers.next,
     }))
@@ -66,17 +66,17 @@ fn numbered<'a>(
 
 // The numbers that bindings have so far, and the next one.
 #[derive(Drop)]
-struct Numbers {
+struct ContextNumbers {
     next: u32,
     of: Vec<Option<u32>>,
 }
 
-impl Numbers {
+impl ContextNumbers {
     // None of so many bindings has one.
-    fn new(alloc: Global, count: usize, next: u32) -> Result<Numbers, AllocError>
-        ensures { IfOk result (HasNone next count) }
+    fn new(alloc: Global, count: usize, next: u32) -> Result<ContextNumbers, AllocError>
+        ensures { IfOk result (HasNoNumbers next count) }
     {
-        Ok(Numbers {
+        Ok(ContextNumbers {
             next,
             of: vec![in alloc; None; count]?,
         })

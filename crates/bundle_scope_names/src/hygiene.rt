@@ -5,27 +5,27 @@
 ghost use Rattle.std.specs.Prelude.{◌≡◌, ◌<◌, ◌==◌, ◌++◌, ◌∷◌, [], ℕ, true, cond, None, Some, List, IfOk, OnOk, length, map, string_bytes, slice_get, unwrap_or};
 ghost use Rattle.std.specs.List.{list_any};
 ghost use Rattle.std.specs.Option.{option_map};
-ghost use Rattle.bundle_tree_piece.specs.Item.{item_of};
+ghost use Rattle.bundle_syntax.specs.Item.{item_of};
 ghost use Rattle.bundle_rules.specs.Homes as homes;
 ghost use Rattle.bundle_rules.specs.Renaming as renaming;
 ghost use Rattle.bundle_rules.specs.Nodes.{Text};
-ghost use Rattle.bundle_scope_denote.specs.Numbers.{numbered};
+ghost use Rattle.bundle_scope_denote.specs.Numbers.{numbered_scope};
 ghost use Rattle.bundle_scope_denote.specs.Chains as chains;
 ghost use Rattle.bundle_scope_denote.specs.Chains.{AreInOrder};
 ghost use Rattle.bundle_scope_denote.specs.Bound as bound;
 ghost use Rattle.bundle_scope_denote.specs.Kinds.{scope_as};
 ghost use Rattle.bundle_scope_names.specs.Called.{at};
 ghost use Rattle.bundle_scope_names.specs.Turns as turns;
-ghost use Rattle.bundle_scope_names.specs.Turns.{AreInTurn, AreNamed, Facts, first_after, first_of, given_to, group_of, home_of, is_before, is_number, is_right, symbol_by, symbol_of, symbols_from};
+ghost use Rattle.bundle_scope_names.specs.Turns.{AreInTurn, AreBindingsNamed, Facts, first_after, first_of, text_given, group_number, home_number, is_before, is_this_number, is_right, symbol_by, binding_symbol, symbols_from};
 ghost use Rattle.bundle_scope_names.specs.Marks as the_marks;
-ghost use Rattle.bundle_scope_names.specs.Symbols.{AddsSymbol, HasNumbers};
+ghost use Rattle.bundle_scope_names.specs.Symbols.{AddsSymbol, HaveSymbolNumbers};
 ghost use Rattle.bundle_scope_names.specs.Uses.{AreUses};
-ghost use Rattle.bundle_scope_names.specs.Marks.{Adds, AddsGlobal, Gives, IsClosed, Keeps, Knows, Marks, Symbol, has_symbol, has_taken, is_among, is_called_in, last_by, marked, may_keep_by, number_in, uses_of};
+ghost use Rattle.bundle_scope_names.specs.Marks.{AddsNeed, AddsGlobal, GivesText, IsClosed, KeepsItsSymbol, Knows, Marks, Symbol, has_symbol, has_taken, is_among, is_called_in, last_by, marked, may_keep_by, symbol_number, binding_scopes};
 
 use crate::names::Names;
 use crate::uses::Uses;
 use bundle_scope_denote::{Binding, Denotations, Denoted, Mixed, Salt, Scope, ScopeKind};
-use bundle_tree_piece::Piece;
+use bundle_syntax::Piece;
 use indexmap::IndexSet;
 use std::alloc::{AllocError, Global};
 use std::collections::HashSet;
@@ -81,8 +81,8 @@ pub fn hygienic_names<'a>(
     denotations: &Denotations<'a>,
     keywords: &Names,
 ) -> Result<Names, AllocError>
-    requires { AreInOrder (map numbered denotations.now.scopes.items) }
-    ensures named { IfOk result (AreNamed denotations.now (map item_of pieces.now) keywords.now) }
+    requires { AreInOrder (map numbered_scope denotations.now.scopes.items) }
+    ensures named { IfOk result (AreBindingsNamed denotations.now (map item_of pieces.now) keywords.now) }
     ensures texts { IfOk result (λ names.
         length names.texts.items ≡ length denotations.now.bindings.items) }
     ensures contexts { IfOk result (λ names.
@@ -230,7 +230,7 @@ fn symbol_in<'a>(pieces: &[Piece<'a>], place: usize) -> Option<&'a str>
 
 // The number of the scope around one.
 fn outer_at(scopes: &[Scope], number: usize) -> Option<usize>
-    ensures { result ≡ chains.outer_at (map numbered scopes.now) number }
+    ensures { result ≡ chains.outer_at (map numbered_scope scopes.now) number }
 {
     match scopes.get(number) {
         None => None,
@@ -241,7 +241,7 @@ fn outer_at(scopes: &[Scope], number: usize) -> Option<usize>
 // The number of the scope whose names keep apart with those of a scope: the parameters for a body, the wrapper for
 // the top of a CommonJS module, the catch for its block, and else itself.
 fn group_at(scopes: &[Scope], number: usize) -> usize
-    ensures { result ≡ group_of (map numbered scopes.now) number }
+    ensures { result ≡ group_number (map numbered_scope scopes.now) number }
 {
     match scopes.get(number) {
         None => number,
@@ -278,7 +278,7 @@ fn symbols_before<'s, 'a: 's>(
         ≡ list_any (is_called_in (map item_of pieces.now) (map (λ sym. sym.now) symbols.now) text)
         denotations.now.occurrences.items) }
     ensures numbers { IfOk result (λ before.
-        HasNumbers (map (λ sym. sym.now) symbols.now) denotations.now.occurrences.items
+        HaveSymbolNumbers (map (λ sym. sym.now) symbols.now) denotations.now.occurrences.items
         before.symbols.keys before.numbers.items) }
 {
     let mut before = Before {
@@ -319,7 +319,7 @@ impl<'s> Before<'s> {
         ensures numbers { (other : ℕ) →
             other < length self.old.numbers.items →
             at self.new.numbers.items other
-            ≡ cond (is_number other binding) (Some number) (at self.old.numbers.items other) }
+            ≡ cond (is_this_number other binding) (Some number) (at self.old.numbers.items other) }
     {
         let Some(binding) = binding else {
             return;
@@ -361,12 +361,12 @@ fn symbol_declared<'s>(symbols: &[&'s str], binding: usize, declares: bool) -> O
 
 // Marks the symbol with a number in a scope and in those around it.
 fn mark(marks: &mut Keys, scopes: &[Scope], from: usize, symbol: usize) -> Result<(), AllocError>
-    requires { AreInOrder (map numbered scopes.now) }
+    requires { AreInOrder (map numbered_scope scopes.now) }
     ensures { OnOk result
         ((symbols : List Symbol) (text : Text) →
-        number_in symbols text ≡ Some symbol →
-        IsClosed (map numbered scopes.now) (marked symbols marks.old.keys) →
-        Marks (map numbered scopes.now) (from ∷ []) text (marked symbols marks.old.keys)
+        symbol_number symbols text ≡ Some symbol →
+        IsClosed (map numbered_scope scopes.now) (marked symbols marks.old.keys) →
+        Marks (map numbered_scope scopes.now) (from ∷ []) text (marked symbols marks.old.keys)
         (marked symbols marks.new.keys)) }
 {
     let mut at = Some(from);
@@ -391,14 +391,14 @@ fn mark_all(
     binding: usize,
     symbol: usize,
 ) -> Result<(), AllocError>
-    requires in_order { AreInOrder (map numbered scopes.now) }
+    requires in_order { AreInOrder (map numbered_scope scopes.now) }
     requires uses { AreUses occurrences.now uses.now }
     requires within { binding < length uses.now.last.items }
     ensures { OnOk result
         ((symbols : List Symbol) (text : Text) →
-        number_in symbols text ≡ Some symbol →
-        IsClosed (map numbered scopes.now) (marked symbols marks.old.keys) →
-        Marks (map numbered scopes.now) (uses_of occurrences.now binding) text
+        symbol_number symbols text ≡ Some symbol →
+        IsClosed (map numbered_scope scopes.now) (marked symbols marks.old.keys) →
+        Marks (map numbered_scope scopes.now) (binding_scopes occurrences.now binding) text
         (marked symbols marks.old.keys) (marked symbols marks.new.keys)) }
 {
     let mut at = uses.last_of(binding);
@@ -461,10 +461,10 @@ impl<'s> Hygiene<'s> {
         denotations: &Denotations<'a>,
         symbols: IndexSet<&'s str, Salt>,
     ) -> Result<Hygiene<'s>, AllocError>
-        requires { AreInOrder (map numbered denotations.now.scopes.items) }
+        requires { AreInOrder (map numbered_scope denotations.now.scopes.items) }
         ensures knows { IfOk result (λ hygiene.
             (facts : Facts) →
-            facts.scopes ≡ map numbered denotations.now.scopes.items →
+            facts.scopes ≡ map numbered_scope denotations.now.scopes.items →
             facts.occurrences ≡ denotations.now.occurrences.items →
             facts.items ≡ map item_of pieces.now →
             ((text : Text) → is_among text symbols.entry.keys ≡ is_before facts text) →
@@ -494,9 +494,9 @@ impl<'s> Hygiene<'s> {
         scopes: &[Scope],
         occurrence: Denoted,
     ) -> Result<(), AllocError>
-        requires { AreInOrder (map numbered scopes.now) }
+        requires { AreInOrder (map numbered_scope scopes.now) }
         ensures { OnOk result
-            (Adds (map numbered scopes.now) (map item_of pieces.now) occurrence self.old self.new) }
+            (AddsNeed (map numbered_scope scopes.now) (map item_of pieces.now) occurrence self.old self.new) }
     {
         match occurrence.binding {
             None => self.add_global(pieces, scopes, occurrence),
@@ -511,9 +511,9 @@ impl<'s> Hygiene<'s> {
         scopes: &[Scope],
         occurrence: Denoted,
     ) -> Result<(), AllocError>
-        requires { AreInOrder (map numbered scopes.now) }
+        requires { AreInOrder (map numbered_scope scopes.now) }
         ensures { OnOk result
-            (AddsGlobal (map numbered scopes.now) occurrence.scope
+            (AddsGlobal (map numbered_scope scopes.now) occurrence.scope
             (symbol_by (slice_get (map item_of pieces.now) occurrence.place)) self.old self.new) }
     {
         let Some(sym) = symbol_in(pieces, occurrence.place) else {
@@ -534,23 +534,23 @@ impl<'s> Hygiene<'s> {
         uses: &Uses,
         next: Next<'s>,
     ) -> Result<Option<String>, AllocError>
-        requires in_order { AreInOrder (map numbered denotations.now.scopes.items) }
+        requires in_order { AreInOrder (map numbered_scope denotations.now.scopes.items) }
         requires uses { AreUses denotations.now.occurrences.items uses.now }
         requires within { next.number < length uses.now.last.items }
         ensures text { IfOk result (λ text.
             (facts : Facts) (done : List turns.Turn) →
-            facts.scopes ≡ map numbered denotations.now.scopes.items →
+            facts.scopes ≡ map numbered_scope denotations.now.scopes.items →
             facts.occurrences ≡ denotations.now.occurrences.items →
-            home_of facts next.entry.number ≡ next.entry.home →
-            symbol_of facts next.entry.number ≡ next.entry.sym.now →
-            next.entry.symbol ≡ number_in self.old.symbols.keys next.entry.sym.now →
-            is_before facts (symbol_of facts next.entry.number) ≡ true →
+            home_number facts next.entry.number ≡ next.entry.home →
+            binding_symbol facts next.entry.number ≡ next.entry.sym.now →
+            next.entry.symbol ≡ symbol_number self.old.symbols.keys next.entry.sym.now →
+            is_before facts (binding_symbol facts next.entry.number) ≡ true →
             Knows facts done self.old →
             (turn : turns.Turn)
             × (turn.binding ≡ next.entry.number)
             × (is_right facts done turn ≡ true)
             × Knows facts (done ++ turn ∷ []) self.new
-            × (option_map string_bytes text ≡ given_to facts turn)) }
+            × (option_map string_bytes text ≡ text_given facts turn)) }
         ensures symbols { OnOk result (self.new.symbols.keys ≡ self.old.symbols.keys) }
     {
         let Some(symbol) = next.symbol else {
@@ -567,7 +567,7 @@ impl<'s> Hygiene<'s> {
 
     // Whether a binding that belongs to this scope and group may keep its symbol, which has a number.
     fn may_keep(&self, home: usize, group: usize, sym: &'s str, symbol: usize) -> bool
-        ensures { number_in self.now.symbols.keys sym.now ≡ Some symbol →
+        ensures { symbol_number self.now.symbols.keys sym.now ≡ Some symbol →
             result ≡ may_keep_by self.now home group sym.now }
     {
         if is_arguments(sym) {
@@ -588,15 +588,15 @@ impl<'s> Hygiene<'s> {
         group: usize,
         symbol: usize,
     ) -> Result<(), AllocError>
-        requires in_order { AreInOrder (map numbered denotations.now.scopes.items) }
+        requires in_order { AreInOrder (map numbered_scope denotations.now.scopes.items) }
         requires uses { AreUses denotations.now.occurrences.items uses.now }
         requires within { binding < length uses.now.last.items }
         ensures symbols { self.new.symbols.keys ≡ self.old.symbols.keys }
         ensures keeps { OnOk result
             ((text : Text) →
-            number_in self.old.symbols.keys text ≡ Some symbol →
-            Keeps (map numbered denotations.now.scopes.items) group text
-            (uses_of denotations.now.occurrences.items binding) self.old self.new) }
+            symbol_number self.old.symbols.keys text ≡ Some symbol →
+            KeepsItsSymbol (map numbered_scope denotations.now.scopes.items) group text
+            (binding_scopes denotations.now.occurrences.items binding) self.old self.new) }
     {
         self.kept.insert((group, symbol))?;
         mark_all(
@@ -618,10 +618,10 @@ impl<'s> Hygiene<'s> {
         symbol: usize,
     ) -> Result<String, AllocError>
         ensures gives { IfOk result (λ text.
-            number_in self.old.symbols.keys sym.now ≡ Some symbol →
+            symbol_number self.old.symbols.keys sym.now ≡ Some symbol →
             (number : ℕ)
             × (string_bytes text ≡ renaming.numbered sym.now number)
-            × Gives sym.now number self.old self.new) }
+            × GivesText sym.now number self.old self.new) }
         ensures symbols { OnOk result (self.new.symbols.keys ≡ self.old.symbols.keys) }
     {
         let first = tried_last(&self.last, symbol);

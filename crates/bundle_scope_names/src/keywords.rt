@@ -3,22 +3,22 @@
 ghost use Rattle.std.specs.Prelude.{◌≡◌, ◌==◌, ◌&&◌, ◌||◌, ℕ, None, IfOk, List, OnOk, bytes_eq, is_some, length, map, string_bytes};
 ghost use Rattle.std.specs.List.{list_any};
 ghost use Rattle.std.specs.Option.{option_map};
-ghost use Rattle.bundle_tree_piece.specs.Item.{Item, item_of};
+ghost use Rattle.bundle_syntax.specs.Item.{Item, item_of};
 ghost use Rattle.bundle_rules.specs.Nodes.{Text};
 ghost use Rattle.bundle_scope_names.specs.Called.{at, keyword_text};
 ghost use Rattle.bundle_scope_names.specs.Fresh as fresh;
-ghost use Rattle.bundle_scope_names.specs.Fresh.{AddsNames, Answers as AnswersFor, AreContexts, KnowsNames, TakesNext, ctxt_of, has};
+ghost use Rattle.bundle_scope_names.specs.Fresh.{AddsNames, AnswersCollision as AnswersFor, AreContexts, KnowsNames, TakesNext, ctxt_of, has_symbol_at};
 
 use crate::names::Names;
 use crate::words::is_keyword;
 use bundle_scope_denote::{Binding, Denotations, Salt, salt_of};
-use bundle_tree_piece::{Piece, Role};
+use bundle_syntax::{Piece, Role};
 use std::alloc::{AllocError, Global};
 use std::collections::HashSet;
 
 // Which identifiers a list has, and their contexts; and the next context to try.
 #[derive(Drop)]
-struct Taken<'a> {
+struct TakenNames<'a> {
     names: HashSet<(u32, &'a str), Salt>,
     contexts: HashSet<u32>,
     next: u32,
@@ -86,7 +86,7 @@ fn contexts_of<'a>(
     if !has_text(texts) {
         return none_of(alloc, texts.len());
     }
-    let mut taken = Taken::of(alloc, pieces)?;
+    let mut taken = TakenNames::of(alloc, pieces)?;
     let mut contexts = Vec::new(alloc);
     for number in 0..texts.len() {
         let context = taken.context_for(text_at(texts, number), ctxt_at(bindings, number))?;
@@ -144,13 +144,13 @@ fn occurs(role: Role) -> bool
     role != Role::Word
 }
 
-impl<'a> Taken<'a> {
+impl<'a> TakenNames<'a> {
     // Those of a list.
-    fn of(alloc: Global, pieces: &[Piece<'a>]) -> Result<Taken<'a>, AllocError>
+    fn of(alloc: Global, pieces: &[Piece<'a>]) -> Result<TakenNames<'a>, AllocError>
         ensures knows { IfOk result (KnowsNames (map item_of pieces.now)) }
         ensures next { IfOk result (λ taken. taken.next ≡ 2) }
     {
-        let mut taken = Taken {
+        let mut taken = TakenNames {
             names: HashSet::with_hasher(alloc, salt_of(pieces)),
             contexts: HashSet::new(alloc),
             next: 2,
@@ -184,8 +184,8 @@ impl<'a> Taken<'a> {
     fn add_name(&mut self, sym: &'a str, ctxt: u32) -> Result<(), AllocError>
         ensures names { OnOk result
             ((other : ℕ) (text : Text) →
-            has other text self.new.names.keys
-            ≡ (has other text self.old.names.keys || (other == ctxt && bytes_eq text sym.now))) }
+            has_symbol_at other text self.new.names.keys
+            ≡ (has_symbol_at other text self.old.names.keys || (other == ctxt && bytes_eq text sym.now))) }
         ensures contexts { OnOk result
             ((other : ℕ) →
             list_any (λ its. other == its) self.new.contexts.keys

@@ -8,7 +8,7 @@ use std::alloc::{AllocError, Global};
 
 /// What becomes of the contexts of a list whose bindings are named.
 #[derive(Clone, Copy)]
-pub enum Contexts {
+pub enum ContextRule {
     /// They stay, but for those that the names say.
     Keep,
     /// Each is 0, that of a plain word too.
@@ -30,7 +30,7 @@ impl Names {
         ensures texts { IfOk result (λ names. length names.texts.items ≡ count) }
         ensures contexts { IfOk result (λ names. length names.contexts.items ≡ count) }
         ensures same { IfOk result (λ names.
-            (number : ℕ) → called.text_of names number ≡ None) }
+            (number : ℕ) → called.binding_text names number ≡ None) }
         ensures same_contexts { IfOk result (λ names.
             (number : ℕ) → called.context_of names number ≡ None) }
     {
@@ -47,7 +47,7 @@ impl Names {
     pub(crate) fn copied(&self, alloc: Global, count: usize) -> Result<Names, AllocError>
         ensures same { IfOk result (λ names.
             (number : ℕ) →
-            number < count → called.text_of names number ≡ called.text_of self.now number) }
+            number < count → called.binding_text names number ≡ called.binding_text self.now number) }
         ensures same_contexts { IfOk result (λ names.
             (number : ℕ) →
             number < count →
@@ -66,7 +66,7 @@ impl Names {
 
     /// The new text of a binding, or `None` where it keeps its symbol.
     pub fn text_of(&self, binding: usize) -> Option<&str>
-        ensures { option_map (λ text. text.now) result ≡ called.text_of self.now binding }
+        ensures { option_map (λ text. text.now) result ≡ called.binding_text self.now binding }
     {
         match self.texts.get(binding) {
             Some(Some(text)) => Some(text.as_str()),
@@ -89,9 +89,9 @@ impl Names {
         ensures texts { length self.new.texts.items ≡ length self.old.texts.items }
         ensures contexts { self.new.contexts.items ≡ self.old.contexts.items }
         ensures own { binding < length self.old.texts.items →
-            called.text_of self.new binding ≡ Some (string_bytes text) }
+            called.binding_text self.new binding ≡ Some (string_bytes text) }
         ensures others { (other : ℕ) →
-            other ≢ binding → called.text_of self.new other ≡ called.text_of self.old other }
+            other ≢ binding → called.binding_text self.new other ≡ called.binding_text self.old other }
     {
         if let Some(its) = self.texts.get_mut(binding) {
             *its = Some(text);

@@ -1,7 +1,7 @@
 //! What the occurrences of a list become once its bindings are named.
 
 ghost use Rattle.std.specs.Prelude.{◌≡◌, ◌++◌, ℕ, IfOk, OnOk, bytes_eq, length, map, not, option_to_list, slice_get};
-ghost use Rattle.bundle_tree_piece.specs.Item.{item_of};
+ghost use Rattle.bundle_syntax.specs.Item.{item_of};
 ghost use Rattle.bundle_rules.specs.Idents.{idents};
 ghost use Rattle.bundle_rules.specs.Rebuilds as rebuilds;
 ghost use Rattle.bundle_tree_places.specs.Changes.{change_of};
@@ -10,9 +10,9 @@ ghost use Rattle.bundle_scope_names.specs.Called as Called;
 ghost use Rattle.bundle_scope_names.specs.Called.{name_changes};
 ghost use Rattle.bundle_scope_names.specs.Changed.{change_next, idents_as};
 
-use crate::names::{Contexts, Names};
+use crate::names::{ContextRule, Names};
 use bundle_scope_denote::{Denotations, Denoted};
-use bundle_tree_piece::{Piece, Role};
+use bundle_syntax::{Piece, Role};
 use bundle_tree_places::{Change, Name};
 use std::alloc::{AllocError, Global};
 
@@ -24,7 +24,7 @@ pub fn changes_of<'c, 'a: 'c>(
     pieces: &[Piece<'a>],
     denotations: &Denotations<'_>,
     names: &'c Names,
-    contexts: Contexts,
+    contexts: ContextRule,
 ) -> Result<Vec<Change<'c>>, AllocError>
     ensures { IfOk result (λ changes.
         map change_of changes.items
@@ -60,7 +60,7 @@ fn add_change<'c, 'a: 'c>(
     old: Name<'a>,
     denoted: &[Denoted],
     names: &'c Names,
-    contexts: Contexts,
+    contexts: ContextRule,
 ) -> Result<(), AllocError>
     ensures { OnOk result
         (map change_of changes.new.items
@@ -88,13 +88,13 @@ fn binding_at(denoted: &[Denoted], number: usize) -> Option<Option<usize>>
 // What stands in the place of an identifier that denotes this binding, or a global.
 fn change_for<'c, 'a: 'c>(
     names: &'c Names,
-    contexts: Contexts,
+    contexts: ContextRule,
     old: Name<'a>,
     binding: Option<usize>,
 ) -> Change<'c>
     ensures { change_of result
         ≡ rebuilds.change_to (ident_of old.entry)
-        (Called.in_context contexts (Called.called names.now (ident_of old.entry) binding)) }
+        (Called.in_context contexts (Called.called_ident names.now (ident_of old.entry) binding)) }
 {
     Change {
         ident: in_context(contexts, called(names, old, binding)),
@@ -105,7 +105,7 @@ fn change_for<'c, 'a: 'c>(
 // Whether what has this symbol and denotes this binding, or a global, gets another symbol.
 fn is_renamed(names: &Names, sym: &str, binding: Option<usize>) -> bool
     ensures { (ctxt : ℕ) →
-        result ≡ not (bytes_eq sym.now (Called.called names.now (sym.now, ctxt) binding).0) }
+        result ≡ not (bytes_eq sym.now (Called.called_ident names.now (sym.now, ctxt) binding).0) }
 {
     let Some(binding) = binding else {
         return false;
@@ -118,7 +118,7 @@ fn is_renamed(names: &Names, sym: &str, binding: Option<usize>) -> bool
 
 // What an identifier becomes that denotes this binding, or a global.
 fn called<'c, 'a: 'c>(names: &'c Names, old: Name<'a>, binding: Option<usize>) -> Name<'c>
-    ensures { ident_of result ≡ Called.called names.now (ident_of old.entry) binding }
+    ensures { ident_of result ≡ Called.called_ident names.now (ident_of old.entry) binding }
 {
     match binding {
         None => Name {
@@ -133,12 +133,12 @@ fn called<'c, 'a: 'c>(names: &'c Names, old: Name<'a>, binding: Option<usize>) -
 }
 
 // An identifier whose context stays, or is 0.
-fn in_context<'c>(contexts: Contexts, name: Name<'c>) -> Name<'c>
+fn in_context<'c>(contexts: ContextRule, name: Name<'c>) -> Name<'c>
     ensures { ident_of result ≡ Called.in_context contexts (ident_of name.entry) }
 {
     match contexts {
-        Contexts::Keep => name,
-        Contexts::Clear => Name {
+        ContextRule::Keep => name,
+        ContextRule::Clear => Name {
             sym: name.sym,
             ctxt: 0,
         },

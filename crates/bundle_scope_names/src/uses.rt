@@ -2,7 +2,7 @@
 
 ghost use Rattle.std.specs.Prelude.{◌≡◌, ◌<◌, ℕ, None, Some, IfOk, cond, length};
 ghost use Rattle.bundle_scope_names.specs.Called.{at};
-ghost use Rattle.bundle_scope_names.specs.Turns.{is_number};
+ghost use Rattle.bundle_scope_names.specs.Turns.{is_this_number};
 ghost use Rattle.bundle_scope_names.specs.Uses.{AreUses};
 
 use bundle_scope_denote::Denoted;
@@ -71,7 +71,7 @@ fn linked(last: &mut Vec<Option<usize>>, binding: Option<usize>, number: usize) 
     ensures last { (other : ℕ) →
         other < length last.old.items →
         at last.new.items other
-        ≡ cond (is_number other binding) (Some number) (at last.old.items other) }
+        ≡ cond (is_this_number other binding) (Some number) (at last.old.items other) }
     ensures count { length last.new.items ≡ length last.old.items }
 {
     let Some(binding) = binding else {

@@ -7,7 +7,7 @@ use Rattle.std.specs.Cmp.Lexicographic.{slice_cmp}
 use Rattle.std.specs.Str.{bytes_eq}
 use Rattle.std.specs.String.{string_bytes}
 use Rattle.std.specs.declared.cmp.Ordering.{Ordering}
-use Rattle.bundle_tree_leaf.specs.declared.ident.Ident.{Ident}
+use Rattle.bundle_syntax.specs.declared.ident.Ident.{Ident}
 use Rattle.bundle_tree_ast.specs.declared.expr.Expr.{Expr}
 use Rattle.bundle_tree_ast.specs.declared.expr.Expr.TheVariants as expr
 
@@ -27,17 +27,17 @@ pub record IsIdentExpr (e : Expr) (name : IdName) : Type 0 where
   pub named : ident_name ident ≡ name
 
 -- whether two names have one symbol and one context, as a test; `name_eq-Decides` says that it tests whether they are the same
-abbrev pub name_eq : IdName → IdName → Bool
-name_eq = eq_of_both (on (λ name. name.symbol) bytes_eq) (on (λ name. name.context) nat_eq)
+abbrev pub id_name_eq : IdName → IdName → Bool
+id_name_eq = eq_of_both (on (λ name. name.symbol) bytes_eq) (on (λ name. name.context) nat_eq)
 
 -- names in order: by the bytes of the symbols, and where these are the same by the contexts
 abbrev pub name_cmp : IdName → IdName → Ordering
 name_cmp = then_cmp (on (λ name. name.symbol) (slice_cmp nat_cmp)) (on (λ name. name.context) nat_cmp)
 
 -- what a hasher is given of a name: the symbol, and then the context
-abbrev pub hash_input_of : IdName → fed.HashWrites
-hash_input_of name = fed.str name.symbol ++ fed.u32 name.context
+abbrev pub id_hash_input : IdName → fed.HashWrites
+id_hash_input name = fed.str name.symbol ++ fed.u32 name.context
 
 -- a name as it is shown: the symbol, a `#` and the context, as `x#2`
-abbrev pub shown : IdName → List ℕ
-shown name = name.symbol ++ 35 ∷ decimal name.context
+abbrev pub id_shown : IdName → List ℕ
+id_shown name = name.symbol ++ 35 ∷ decimal name.context

@@ -4,8 +4,8 @@ ghost use Rattle.std.specs.Prelude.{◌≡◌, ◌↔◌, IsTrue, IfOk, IfErr};
 ghost use Rattle.std.specs.String.{string_bytes};
 ghost use Rattle.bundle_tree.specs.IdName.{ident_name};
 
+use bundle_syntax::Ident;
 use bundle_tree_ast::Expr;
-use bundle_tree_leaf::Ident;
 use bundle_tree_names::{Error, SyntaxContext};
 use std::alloc::{AllocError, Global};
 use std::cmp::Ordering;
@@ -140,15 +140,15 @@ impl Clone for Id {
 
 impl PartialEq for Id {
     ghost use Rattle.std.specs.Prelude.{◌≡◌, ◌↔◌, IsTrue};
-    ghost use Rattle.bundle_tree.specs.IdName.{name_eq};
+    ghost use Rattle.bundle_tree.specs.IdName.{id_name_eq};
     ghost use Rattle.bundle_tree.specs.IdNameLaws.{name_eq_per};
 
-    ghost eq = { name_eq };
+    ghost eq = { id_name_eq };
 
     ghost laws = { name_eq_per };
 
     fn eq(&self, other: &Id) -> bool
-        ensures value { result ≡ name_eq self.now other.now }
+        ensures value { result ≡ id_name_eq self.now other.now }
         ensures same { IsTrue result ↔ (self.now ≡ other.now) }
     {
         self.sym == other.sym && self.ctxt == other.ctxt
@@ -156,9 +156,9 @@ impl PartialEq for Id {
 }
 
 impl Eq for Id {
-    ghost use Rattle.bundle_tree.specs.IdNameLaws.{name_eq_equiv};
+    ghost use Rattle.bundle_tree.specs.IdNameLaws.{id_name_eq_equiv};
 
-    ghost laws = { name_eq_equiv };
+    ghost laws = { id_name_eq_equiv };
 }
 
 impl PartialOrd for Id {
@@ -195,10 +195,10 @@ impl Ord for Id {
 }
 
 impl Hash for Id {
-    ghost use Rattle.bundle_tree.specs.IdName.{hash_input_of};
+    ghost use Rattle.bundle_tree.specs.IdName.{id_hash_input};
     ghost use Rattle.bundle_tree.specs.IdNameLaws.{name_hash_alike};
 
-    ghost hash_input = { hash_input_of };
+    ghost hash_input = { id_hash_input };
 
     ghost respects_eq = { name_hash_alike };
 
@@ -211,9 +211,9 @@ impl Hash for Id {
 /// Writes the symbol, a `#` and the number of the context, as `x#2`.
 impl fmt::Debug for Id {
     ghost use Rattle.std.specs.Prelude.{Some};
-    ghost use Rattle.bundle_tree.specs.IdName.{shown};
+    ghost use Rattle.bundle_tree.specs.IdName.{id_shown};
 
-    ghost debug_output = { λ id. Some (shown id) };
+    ghost debug_output = { λ id. Some (id_shown id) };
 
     fn fmt<W: fmt::Write>(&self, f: &mut fmt::Formatter<W>) -> fmt::Result {
         let sym = self.sym();

@@ -4,8 +4,8 @@ use crate::expr::Expr;
 use crate::pat::Pat;
 use crate::prop::PropName;
 use crate::stmt::BlockStmt;
-use bundle_tree_leaf::ident::PrivateName;
-use bundle_tree_leaf::kind::MethodKind;
+use bundle_syntax::ident::PrivateName;
+use bundle_syntax::kind::MethodKind;
 
 /// The parameters and the body of a function or a method (ECMA-262, 15.2, 15.5, 15.6 and 15.8).
 #[cycle(ast)]

@@ -3,8 +3,8 @@
 use crate::class::{Class, Function};
 use crate::expr::Expr;
 use crate::pat::Pat;
-use bundle_tree_leaf::ident::Ident;
-use bundle_tree_leaf::kind::{ExportMetadata, VarDeclKind};
+use bundle_syntax::ident::Ident;
+use bundle_syntax::kind::{ExportMetadata, VarDeclKind};
 
 /// A declaration of a class, a function or variables.
 #[cycle(ast)]

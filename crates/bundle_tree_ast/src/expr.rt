@@ -4,10 +4,10 @@ use crate::class::{Class, Function};
 use crate::pat::{AssignTarget, Pat};
 use crate::prop::{MemberProp, PropOrSpread, SuperProp};
 use crate::stmt::BlockStmt;
-use bundle_tree_leaf::ident::{Ident, PrivateName};
-use bundle_tree_leaf::kind::MetaPropKind;
-use bundle_tree_leaf::lit::{Lit, TplElement};
-use bundle_tree_leaf::operator::{AssignOp, BinaryOp, UnaryOp, UpdateOp};
+use bundle_syntax::ident::{Ident, PrivateName};
+use bundle_syntax::kind::MetaPropKind;
+use bundle_syntax::lit::{Lit, TplElement};
+use bundle_syntax::operator::{AssignOp, BinaryOp, UnaryOp, UpdateOp};
 
 /// An expression.
 #[cycle(ast)]

@@ -13,11 +13,11 @@ pub mod pat;
 pub mod prop;
 pub mod stmt;
 
-pub use bundle_tree_leaf::ident::{BindingIdent, Ident, IdentName, PrivateName};
-pub use bundle_tree_leaf::kind::{ExportMetadata, MetaPropKind, MethodKind, VarDeclKind};
-pub use bundle_tree_leaf::lit::{BigInt, Lit, Number, Regex, Str, TplElement};
-pub use bundle_tree_leaf::operator::{AssignOp, BinaryOp, UnaryOp, UpdateOp};
-pub use bundle_tree_leaf::specifier::{ExportSpecifier, ImportSpecifier, ModuleExportName};
+pub use bundle_syntax::ident::{BindingIdent, Ident, IdentName, PrivateName};
+pub use bundle_syntax::kind::{ExportMetadata, MetaPropKind, MethodKind, VarDeclKind};
+pub use bundle_syntax::lit::{BigInt, Lit, Number, Regex, Str, TplElement};
+pub use bundle_syntax::operator::{AssignOp, BinaryOp, UnaryOp, UpdateOp};
+pub use bundle_syntax::specifier::{ExportSpecifier, ImportSpecifier, ModuleExportName};
 pub use class::{Class, ClassMember, Function, Param};
 pub use decl::{Decl, VarDecl, VarDeclarator};
 pub use expr::{

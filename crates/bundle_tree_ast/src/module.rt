@@ -4,10 +4,10 @@ use crate::class::{Class, Function};
 use crate::decl::Decl;
 use crate::expr::Expr;
 use crate::stmt::Stmt;
-use bundle_tree_leaf::ident::Ident;
-use bundle_tree_leaf::kind::ExportMetadata;
-use bundle_tree_leaf::lit::Str;
-use bundle_tree_leaf::specifier::{ExportSpecifier, ImportSpecifier};
+use bundle_syntax::ident::Ident;
+use bundle_syntax::kind::ExportMetadata;
+use bundle_syntax::lit::Str;
+use bundle_syntax::specifier::{ExportSpecifier, ImportSpecifier};
 
 /// A module (ECMA-262, 16.2).
 #[derive(PartialEq, Debug)]

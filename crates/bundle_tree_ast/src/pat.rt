@@ -2,7 +2,7 @@
 
 use crate::expr::{Expr, MemberExpr, ParenExpr, SuperPropExpr};
 use crate::prop::PropName;
-use bundle_tree_leaf::ident::BindingIdent;
+use bundle_syntax::ident::BindingIdent;
 
 /// A pattern (ECMA-262, 14.3.3). `Expr` stands in patterns that assign and bind nothing.
 #[cycle(ast)]

@@ -4,8 +4,8 @@ use crate::class::Function;
 use crate::expr::Expr;
 use crate::pat::Pat;
 use crate::stmt::BlockStmt;
-use bundle_tree_leaf::ident::{Ident, IdentName, PrivateName};
-use bundle_tree_leaf::lit::{BigInt, Number, Str};
+use bundle_syntax::ident::{Ident, IdentName, PrivateName};
+use bundle_syntax::lit::{BigInt, Number, Str};
 
 /// What stands in an object literal (ECMA-262, 13.2.5).
 #[cycle(ast)]

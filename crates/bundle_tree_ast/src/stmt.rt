@@ -3,7 +3,7 @@
 use crate::decl::{Decl, VarDecl};
 use crate::expr::Expr;
 use crate::pat::Pat;
-use bundle_tree_leaf::ident::IdentName;
+use bundle_syntax::ident::IdentName;
 
 /// Statements in braces (ECMA-262, 14.2). Also the body of a function, method or `catch`.
 #[derive(PartialEq, Drop, Debug)]

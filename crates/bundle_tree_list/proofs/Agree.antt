@@ -2,7 +2,7 @@
 use Rattle.std.proofs.Common.{◌≡◌, ◌≢◌, ℕ, suc, pred, refl, false, Bool, ◌∙◌, sym, ap, subst₂, inl, inr, true≢false, List, [], ◌∷◌, arith, eqb}
 use Rattle.std.specs.Bool.{Decides}
 use Rattle.std.proofs.lemmas.Bool.Decides.{Decides-eqb}
-use Rattle.bundle_tree_piece.specs.Item.{Item}
+use Rattle.bundle_syntax.specs.Item.{Item}
 use Rattle.bundle_tree_list.proofs.Cut.{Row}
 use Rattle.bundle_tree_list.proofs.Part.{Part}
 use denote.Struct.Field.{Field}

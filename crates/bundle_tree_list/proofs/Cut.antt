@@ -1,8 +1,8 @@
 -- A list of nodes that stand in one field ends where the field does.
 use Rattle.std.proofs.Common.{◌≡◌, ℕ, zero, suc, true, false, cond, eqb, arith, tests, refl, sym, ap, ◌∙◌, subst, List, [], ◌∷◌, ◌++◌, Option, Some, None, append_assoc, append-nil}
-use Rattle.bundle_tree_piece.specs.Item as h
-use Rattle.bundle_tree_piece.specs.Item.{Item, Head}
-use Rattle.bundle_tree_piece.specs.declared.piece.Role.{Role}
+use Rattle.bundle_syntax.specs.Item as h
+use Rattle.bundle_syntax.specs.Item.{Item, Head}
+use Rattle.bundle_syntax.specs.declared.piece.Role.{Role}
 use Rattle.std.specs.List.{flat_map}
 use Rattle.bundle_tree_listed.specs.Tree.{node, option_items}
 use Rattle.bundle_rules.specs.Nodes.{put_first, side_by_side}

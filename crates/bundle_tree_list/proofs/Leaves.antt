@@ -7,54 +7,54 @@ use Rattle.std.proofs.lemmas.Bool.Decides.{Decides-eqb}
 use denote.Enum.Compared.{Each, by}
 use lib.Pointwise.{bytes_decides}
 use mathlib.Core.Bool.{beq}
-use Rattle.bundle_tree_leaf.specs.declared.ident.Ident as v_ident
-use Rattle.bundle_tree_leaf.specs.declared.ident.IdentName as v_ident_name
-use Rattle.bundle_tree_leaf.specs.declared.ident.PrivateName as v_private_name
-use Rattle.bundle_tree_leaf.specs.declared.ident.BindingIdent as v_binding_ident
-use Rattle.bundle_tree_leaf.specs.declared.lit.Str as v_str
-use Rattle.bundle_tree_leaf.specs.declared.lit.Number as v_number
-use Rattle.bundle_tree_leaf.specs.declared.lit.BigInt as v_big_int
-use Rattle.bundle_tree_leaf.specs.declared.lit.Regex as v_regex
-use Rattle.bundle_tree_leaf.specs.declared.lit.Lit as v_lit
-use Rattle.bundle_tree_leaf.specs.declared.lit.Lit.TheVariants as i_lit
-use Rattle.bundle_tree_leaf.specs.declared.lit.TplElement as v_tpl_element
-use Rattle.bundle_tree_leaf.specs.declared.kind.ExportMetadata as v_meta
-use Rattle.bundle_tree_leaf.specs.declared.kind.MetaPropKind as v_meta_prop
-use Rattle.bundle_tree_leaf.specs.declared.kind.MethodKind as v_method
-use Rattle.bundle_tree_leaf.specs.declared.kind.VarDeclKind as v_var
-use Rattle.bundle_tree_leaf.specs.declared.operator.AssignOp as v_assign
-use Rattle.bundle_tree_leaf.specs.declared.operator.BinaryOp as v_binary
-use Rattle.bundle_tree_leaf.specs.declared.operator.UnaryOp as v_unary
-use Rattle.bundle_tree_leaf.specs.declared.operator.UpdateOp as v_update
-use Rattle.bundle_tree_leaf.specs.contracts.kind.MetaPropKind as c_meta_prop
-use Rattle.bundle_tree_leaf.specs.contracts.kind.MethodKind as c_method
-use Rattle.bundle_tree_leaf.specs.contracts.kind.VarDeclKind as c_var
-use Rattle.bundle_tree_leaf.specs.contracts.operator.AssignOp as c_assign
-use Rattle.bundle_tree_leaf.specs.contracts.operator.BinaryOp as c_binary
-use Rattle.bundle_tree_leaf.specs.contracts.operator.UnaryOp as c_unary
-use Rattle.bundle_tree_leaf.specs.contracts.operator.UpdateOp as c_update
-use Rattle.bundle_tree_leaf.specs.contracts.lit.Lit as c_lit
-use Rattle.bundle_tree_leaf.specs.contracts.kind.ExportMetadataPartialEq.TheImpl as e_meta
-use Rattle.bundle_tree_leaf.specs.contracts.kind.MetaPropKindPartialEq.TheImpl as e_meta_prop
-use Rattle.bundle_tree_leaf.specs.contracts.kind.MethodKindPartialEq.TheImpl as e_method
-use Rattle.bundle_tree_leaf.specs.contracts.kind.VarDeclKindPartialEq.TheImpl as e_var
-use Rattle.bundle_tree_leaf.specs.contracts.operator.AssignOpPartialEq.TheImpl as e_assign
-use Rattle.bundle_tree_leaf.specs.contracts.operator.BinaryOpPartialEq.TheImpl as e_binary
-use Rattle.bundle_tree_leaf.specs.contracts.operator.UnaryOpPartialEq.TheImpl as e_unary
-use Rattle.bundle_tree_leaf.specs.contracts.operator.UpdateOpPartialEq.TheImpl as e_update
-use Rattle.bundle_tree_leaf.specs.contracts.ident.IdentPartialEq.TheImpl as e_ident
-use Rattle.bundle_tree_leaf.specs.contracts.ident.IdentNamePartialEq.TheImpl as e_ident_name
-use Rattle.bundle_tree_leaf.specs.contracts.ident.PrivateNamePartialEq.TheImpl as e_private_name
-use Rattle.bundle_tree_leaf.specs.contracts.ident.BindingIdentPartialEq.TheImpl as e_binding_ident
-use Rattle.bundle_tree_leaf.specs.contracts.lit.StrPartialEq.TheImpl as e_str
-use Rattle.bundle_tree_leaf.specs.contracts.lit.NumberPartialEq.TheImpl as e_number
-use Rattle.bundle_tree_leaf.specs.contracts.lit.BigIntPartialEq.TheImpl as e_big_int
-use Rattle.bundle_tree_leaf.specs.contracts.lit.RegexPartialEq.TheImpl as e_regex
-use Rattle.bundle_tree_leaf.specs.contracts.lit.LitPartialEq.TheImpl as e_lit
-use Rattle.bundle_tree_leaf.specs.contracts.lit.TplElementPartialEq.TheImpl as e_tpl_element
-use Rattle.bundle_tree_piece.specs.declared.piece.Role.{Role}
-use Rattle.bundle_tree_piece.specs.Item as h
-use Rattle.bundle_tree_piece.specs.Item.{Item, Head}
+use Rattle.bundle_syntax.specs.declared.ident.Ident as v_ident
+use Rattle.bundle_syntax.specs.declared.ident.IdentName as v_ident_name
+use Rattle.bundle_syntax.specs.declared.ident.PrivateName as v_private_name
+use Rattle.bundle_syntax.specs.declared.ident.BindingIdent as v_binding_ident
+use Rattle.bundle_syntax.specs.declared.lit.Str as v_str
+use Rattle.bundle_syntax.specs.declared.lit.Number as v_number
+use Rattle.bundle_syntax.specs.declared.lit.BigInt as v_big_int
+use Rattle.bundle_syntax.specs.declared.lit.Regex as v_regex
+use Rattle.bundle_syntax.specs.declared.lit.Lit as v_lit
+use Rattle.bundle_syntax.specs.declared.lit.Lit.TheVariants as i_lit
+use Rattle.bundle_syntax.specs.declared.lit.TplElement as v_tpl_element
+use Rattle.bundle_syntax.specs.declared.kind.ExportMetadata as v_meta
+use Rattle.bundle_syntax.specs.declared.kind.MetaPropKind as v_meta_prop
+use Rattle.bundle_syntax.specs.declared.kind.MethodKind as v_method
+use Rattle.bundle_syntax.specs.declared.kind.VarDeclKind as v_var
+use Rattle.bundle_syntax.specs.declared.operator.AssignOp as v_assign
+use Rattle.bundle_syntax.specs.declared.operator.BinaryOp as v_binary
+use Rattle.bundle_syntax.specs.declared.operator.UnaryOp as v_unary
+use Rattle.bundle_syntax.specs.declared.operator.UpdateOp as v_update
+use Rattle.bundle_syntax.specs.contracts.kind.MetaPropKind as c_meta_prop
+use Rattle.bundle_syntax.specs.contracts.kind.MethodKind as c_method
+use Rattle.bundle_syntax.specs.contracts.kind.VarDeclKind as c_var
+use Rattle.bundle_syntax.specs.contracts.operator.AssignOp as c_assign
+use Rattle.bundle_syntax.specs.contracts.operator.BinaryOp as c_binary
+use Rattle.bundle_syntax.specs.contracts.operator.UnaryOp as c_unary
+use Rattle.bundle_syntax.specs.contracts.operator.UpdateOp as c_update
+use Rattle.bundle_syntax.specs.contracts.lit.Lit as c_lit
+use Rattle.bundle_syntax.specs.contracts.kind.ExportMetadataPartialEq.TheImpl as e_meta
+use Rattle.bundle_syntax.specs.contracts.kind.MetaPropKindPartialEq.TheImpl as e_meta_prop
+use Rattle.bundle_syntax.specs.contracts.kind.MethodKindPartialEq.TheImpl as e_method
+use Rattle.bundle_syntax.specs.contracts.kind.VarDeclKindPartialEq.TheImpl as e_var
+use Rattle.bundle_syntax.specs.contracts.operator.AssignOpPartialEq.TheImpl as e_assign
+use Rattle.bundle_syntax.specs.contracts.operator.BinaryOpPartialEq.TheImpl as e_binary
+use Rattle.bundle_syntax.specs.contracts.operator.UnaryOpPartialEq.TheImpl as e_unary
+use Rattle.bundle_syntax.specs.contracts.operator.UpdateOpPartialEq.TheImpl as e_update
+use Rattle.bundle_syntax.specs.contracts.ident.IdentPartialEq.TheImpl as e_ident
+use Rattle.bundle_syntax.specs.contracts.ident.IdentNamePartialEq.TheImpl as e_ident_name
+use Rattle.bundle_syntax.specs.contracts.ident.PrivateNamePartialEq.TheImpl as e_private_name
+use Rattle.bundle_syntax.specs.contracts.ident.BindingIdentPartialEq.TheImpl as e_binding_ident
+use Rattle.bundle_syntax.specs.contracts.lit.StrPartialEq.TheImpl as e_str
+use Rattle.bundle_syntax.specs.contracts.lit.NumberPartialEq.TheImpl as e_number
+use Rattle.bundle_syntax.specs.contracts.lit.BigIntPartialEq.TheImpl as e_big_int
+use Rattle.bundle_syntax.specs.contracts.lit.RegexPartialEq.TheImpl as e_regex
+use Rattle.bundle_syntax.specs.contracts.lit.LitPartialEq.TheImpl as e_lit
+use Rattle.bundle_syntax.specs.contracts.lit.TplElementPartialEq.TheImpl as e_tpl_element
+use Rattle.bundle_syntax.specs.declared.piece.Role.{Role}
+use Rattle.bundle_syntax.specs.Item as h
+use Rattle.bundle_syntax.specs.Item.{Item, Head}
 use Rattle.bundle_tree_listed.specs.Tree as k
 use Rattle.bundle_tree_listed.specs.Tree.{node}
 use Rattle.bundle_tree_list.proofs.Agree.{Both, kinds, nth, variants}

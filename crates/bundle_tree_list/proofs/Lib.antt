@@ -1,3 +1,4 @@
+pub mod Steps
 pub mod Agree
 pub mod Cut
 pub mod Leaves

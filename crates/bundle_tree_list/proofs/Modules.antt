@@ -3,21 +3,21 @@ use Rattle.std.proofs.Common.{◌≡◌, ℕ, Bool, true, ◌&&◌, refl, sym, a
 use Rattle.std.specs.Option.{option_eq}
 use Rattle.std.specs.List.{flat_map}
 use lib.Pointwise.{pointwise}
-use Rattle.bundle_tree_leaf.specs.declared.ident.Ident as v_ident
-use Rattle.bundle_tree_leaf.specs.declared.lit.Str as v_str
-use Rattle.bundle_tree_leaf.specs.declared.specifier.ModuleExportName as v_name
-use Rattle.bundle_tree_leaf.specs.declared.specifier.ModuleExportName.TheVariants as i_name
-use Rattle.bundle_tree_leaf.specs.declared.specifier.ImportSpecifier as v_import
-use Rattle.bundle_tree_leaf.specs.declared.specifier.ImportSpecifier.TheVariants as i_import
-use Rattle.bundle_tree_leaf.specs.declared.specifier.ExportSpecifier as v_export
-use Rattle.bundle_tree_leaf.specs.declared.specifier.ExportSpecifier.TheVariants as i_export
-use Rattle.bundle_tree_leaf.specs.contracts.specifier.ModuleExportName as c_name
-use Rattle.bundle_tree_leaf.specs.contracts.specifier.ImportSpecifier as c_import
-use Rattle.bundle_tree_leaf.specs.contracts.specifier.ExportSpecifier as c_export
-use Rattle.bundle_tree_leaf.specs.contracts.lit.StrPartialEq.TheImpl as e_str
-use Rattle.bundle_tree_leaf.specs.contracts.specifier.ModuleExportNamePartialEq.TheImpl as e_name
-use Rattle.bundle_tree_leaf.specs.contracts.specifier.ImportSpecifierPartialEq.TheImpl as e_import
-use Rattle.bundle_tree_leaf.specs.contracts.specifier.ExportSpecifierPartialEq.TheImpl as e_export
+use Rattle.bundle_syntax.specs.declared.ident.Ident as v_ident
+use Rattle.bundle_syntax.specs.declared.lit.Str as v_str
+use Rattle.bundle_syntax.specs.declared.specifier.ModuleExportName as v_name
+use Rattle.bundle_syntax.specs.declared.specifier.ModuleExportName.TheVariants as i_name
+use Rattle.bundle_syntax.specs.declared.specifier.ImportSpecifier as v_import
+use Rattle.bundle_syntax.specs.declared.specifier.ImportSpecifier.TheVariants as i_import
+use Rattle.bundle_syntax.specs.declared.specifier.ExportSpecifier as v_export
+use Rattle.bundle_syntax.specs.declared.specifier.ExportSpecifier.TheVariants as i_export
+use Rattle.bundle_syntax.specs.contracts.specifier.ModuleExportName as c_name
+use Rattle.bundle_syntax.specs.contracts.specifier.ImportSpecifier as c_import
+use Rattle.bundle_syntax.specs.contracts.specifier.ExportSpecifier as c_export
+use Rattle.bundle_syntax.specs.contracts.lit.StrPartialEq.TheImpl as e_str
+use Rattle.bundle_syntax.specs.contracts.specifier.ModuleExportNamePartialEq.TheImpl as e_name
+use Rattle.bundle_syntax.specs.contracts.specifier.ImportSpecifierPartialEq.TheImpl as e_import
+use Rattle.bundle_syntax.specs.contracts.specifier.ExportSpecifierPartialEq.TheImpl as e_export
 use Rattle.bundle_tree_ast.specs.declared.stmt.Stmt as v_stmt
 use Rattle.bundle_tree_ast.specs.declared.decl.Decl as v_decl
 use Rattle.bundle_tree_ast.specs.declared.expr.Expr as v_expr
@@ -38,10 +38,10 @@ use Rattle.bundle_tree_ast.specs.contracts.module.ModulePartialEq.TheImpl as e_m
 use Rattle.bundle_tree_ast.specs.contracts.module.ModuleItemPartialEq.TheImpl as e_item
 use Rattle.bundle_tree_ast.specs.contracts.module.ModuleDeclPartialEq.TheImpl as e_module_decl
 use Rattle.bundle_tree_ast.specs.contracts.module.DefaultDeclPartialEq.TheImpl as e_default_decl
-use Rattle.bundle_tree_piece.specs.declared.piece.Role.{Role}
-use Rattle.bundle_tree_piece.specs.declared.piece.Role.TheVariants as r
-use Rattle.bundle_tree_piece.specs.Item as h
-use Rattle.bundle_tree_piece.specs.Item.{Item}
+use Rattle.bundle_syntax.specs.declared.piece.Role.{Role}
+use Rattle.bundle_syntax.specs.declared.piece.Role.TheVariants as r
+use Rattle.bundle_syntax.specs.Item as h
+use Rattle.bundle_syntax.specs.Item.{Item}
 use Rattle.bundle_tree_listed.specs.Tree as k
 use Rattle.bundle_tree_listed.specs.Tree.{node, stmt_items}
 use Rattle.bundle_tree_listed.proofs.Rows as all

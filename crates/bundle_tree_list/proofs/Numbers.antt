@@ -1,6 +1,6 @@
 -- The list of a node tells which kind of node it is.
 use Rattle.std.proofs.Common.{◌≡◌, ℕ, Bool, true, false, cond, refl, sym, ap, List, [], ◌∷◌}
-use Rattle.bundle_tree_leaf.specs.declared.lit.Lit.TheVariants as i_lit
+use Rattle.bundle_syntax.specs.declared.lit.Lit.TheVariants as i_lit
 use Rattle.bundle_tree_ast.specs.declared.stmt.Stmt as v_stmt
 use Rattle.bundle_tree_ast.specs.declared.stmt.ForInit as v_for_init
 use Rattle.bundle_tree_ast.specs.declared.stmt.ForHead as v_for_head
@@ -13,7 +13,7 @@ use Rattle.bundle_tree_ast.specs.declared.pat.Pat as v_pat
 use Rattle.bundle_tree_ast.specs.declared.pat.ObjectPatProp as v_object_pat_prop
 use Rattle.bundle_tree_ast.specs.declared.pat.AssignTarget as v_assign_target
 use Rattle.bundle_tree_ast.specs.declared.class.ClassMember as v_class_member
-use Rattle.bundle_tree_piece.specs.declared.piece.Role.{Role}
+use Rattle.bundle_syntax.specs.declared.piece.Role.{Role}
 use Rattle.bundle_tree_ast.specs.contracts.stmt.Stmt as c_stmt
 use Rattle.bundle_tree_ast.specs.contracts.stmt.ForInit as c_for_init
 use Rattle.bundle_tree_ast.specs.contracts.stmt.ForHead as c_for_head
@@ -28,8 +28,8 @@ use Rattle.bundle_tree_ast.specs.contracts.pat.AssignTarget as c_assign_target
 use Rattle.bundle_tree_ast.specs.contracts.class.ClassMember as c_class_member
 use Rattle.bundle_tree_ast.specs.declared.class.ClassMember.TheViews as views
 use denote.Hole.Carrier as carrier
-use Rattle.bundle_tree_piece.specs.Item as h
-use Rattle.bundle_tree_piece.specs.Item.{Item}
+use Rattle.bundle_syntax.specs.Item as h
+use Rattle.bundle_syntax.specs.Item.{Item}
 use Rattle.bundle_tree_listed.specs.Tree.{stmt_items, for_init_items, for_head_items, decl_items, expr_items, arrow_body_items, prop_or_spread_items, prop_items, pat_items, object_pat_prop_items, assign_target_items, class_member_items}
 use Rattle.bundle_tree_list.proofs.Agree.{nth}
 use Rattle.bundle_tree_list.proofs.Part.{begins}

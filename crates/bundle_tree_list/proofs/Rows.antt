@@ -1,16 +1,16 @@
 -- The list of each part of a tree is made of whole nodes, all in the field where the part stands.
 use Rattle.std.proofs.Common.{ℕ}
-use Rattle.bundle_tree_leaf.specs.declared.ident.Ident as v_ident
-use Rattle.bundle_tree_leaf.specs.declared.ident.IdentName as v_ident_name
-use Rattle.bundle_tree_leaf.specs.declared.ident.PrivateName as v_private_name
-use Rattle.bundle_tree_leaf.specs.declared.ident.BindingIdent as v_binding_ident
-use Rattle.bundle_tree_leaf.specs.declared.lit.Str as v_str
-use Rattle.bundle_tree_leaf.specs.declared.lit.Number as v_number
-use Rattle.bundle_tree_leaf.specs.declared.lit.BigInt as v_big_int
-use Rattle.bundle_tree_leaf.specs.declared.lit.Regex as v_regex
-use Rattle.bundle_tree_leaf.specs.declared.lit.Lit as v_lit
-use Rattle.bundle_tree_leaf.specs.declared.lit.Lit.TheVariants as i_lit
-use Rattle.bundle_tree_leaf.specs.declared.lit.TplElement as v_tpl_element
+use Rattle.bundle_syntax.specs.declared.ident.Ident as v_ident
+use Rattle.bundle_syntax.specs.declared.ident.IdentName as v_ident_name
+use Rattle.bundle_syntax.specs.declared.ident.PrivateName as v_private_name
+use Rattle.bundle_syntax.specs.declared.ident.BindingIdent as v_binding_ident
+use Rattle.bundle_syntax.specs.declared.lit.Str as v_str
+use Rattle.bundle_syntax.specs.declared.lit.Number as v_number
+use Rattle.bundle_syntax.specs.declared.lit.BigInt as v_big_int
+use Rattle.bundle_syntax.specs.declared.lit.Regex as v_regex
+use Rattle.bundle_syntax.specs.declared.lit.Lit as v_lit
+use Rattle.bundle_syntax.specs.declared.lit.Lit.TheVariants as i_lit
+use Rattle.bundle_syntax.specs.declared.lit.TplElement as v_tpl_element
 use Rattle.bundle_tree_ast.specs.declared.stmt.Stmt as v_stmt
 use Rattle.bundle_tree_ast.specs.declared.stmt.ForInit as v_for_init
 use Rattle.bundle_tree_ast.specs.declared.stmt.ForHead as v_for_head
@@ -24,8 +24,8 @@ use Rattle.bundle_tree_ast.specs.declared.pat.ObjectPatProp as v_object_pat_prop
 use Rattle.bundle_tree_ast.specs.declared.pat.AssignTarget as v_assign_target
 use Rattle.bundle_tree_ast.specs.declared.class.ClassMember as v_class_member
 use Rattle.bundle_tree_ast.specs.declared.class.ClassMember.TheBlock as block
-use Rattle.bundle_tree_piece.specs.declared.piece.Role.TheVariants as r
-use Rattle.bundle_tree_piece.specs.declared.piece.Role.{Role}
+use Rattle.bundle_syntax.specs.declared.piece.Role.TheVariants as r
+use Rattle.bundle_syntax.specs.declared.piece.Role.{Role}
 use Rattle.bundle_tree_listed.specs.Tree.{ident_items, ident_name_items, private_name_items, binding_ident_items, str_items, number_items, big_int_items, regex_items, lit_items, tpl_element_items, stmt_items, for_init_items, for_head_items, held_option_boxed_stmt, held_option_block_stmt, held_option_catch_clause, held_option_for_init, row_of_stmt, row_of_switch_case, decl_items, row_of_var_declarator, expr_items, arrow_body_items, held_callee, held_opt_chain_base, held_option_expr, held_option_boxed_expr, place_of_expr_or_spread, held_option_each_expr_or_spread, row_of_expr, row_of_expr_or_spread, row_of_option_expr_or_spread, prop_or_spread_items, prop_items, held_prop_name, held_member_prop, held_super_prop, row_of_prop_or_spread, pat_items, object_pat_prop_items, assign_target_items, held_option_pat, place_of_pat, row_of_pat, row_of_option_pat, row_of_object_pat_prop, class_member_items, row_of_param, row_of_class_member}
 use Rattle.bundle_tree_list.proofs.Cut as cut
 

@@ -1,7 +1,7 @@
 -- The list of a node, of an identifier or of a hole is one element of a list.
 use Rattle.std.proofs.Common.{ℕ}
-use Rattle.bundle_tree_leaf.specs.declared.lit.Lit as v_lit
-use Rattle.bundle_tree_leaf.specs.declared.lit.Lit.TheVariants as i_lit
+use Rattle.bundle_syntax.specs.declared.lit.Lit as v_lit
+use Rattle.bundle_syntax.specs.declared.lit.Lit.TheVariants as i_lit
 use Rattle.bundle_tree_ast.specs.declared.stmt.Stmt as v_stmt
 use Rattle.bundle_tree_ast.specs.declared.decl.Decl as v_decl
 use Rattle.bundle_tree_ast.specs.declared.expr.Expr as v_expr
@@ -10,8 +10,8 @@ use Rattle.bundle_tree_ast.specs.declared.prop.Prop as v_prop
 use Rattle.bundle_tree_ast.specs.declared.pat.Pat as v_pat
 use Rattle.bundle_tree_ast.specs.declared.pat.ObjectPatProp as v_object_pat_prop
 use Rattle.bundle_tree_ast.specs.declared.class.ClassMember as v_class_member
-use Rattle.bundle_tree_piece.specs.declared.piece.Role.TheVariants as r
-use Rattle.bundle_tree_piece.specs.declared.piece.Role.{Role}
+use Rattle.bundle_syntax.specs.declared.piece.Role.TheVariants as r
+use Rattle.bundle_syntax.specs.declared.piece.Role.{Role}
 use Rattle.bundle_tree_listed.specs.Tree.{ident_items, ident_name_items, tpl_element_items, lit_items, stmt_items, decl_items, expr_items, prop_or_spread_items, prop_items, pat_items, object_pat_prop_items, class_member_items}
 use Rattle.bundle_tree_list.proofs.Cut as cut
 use Rattle.bundle_tree_list.proofs.Cut.{Single, single_ident, single_node}

@@ -7,9 +7,9 @@ use Rattle.std.specs.formers.vec.Vec as vec
 use mathlib.Core.Former as former
 use mathlib.Core.Bool.{beq}
 use lib.Pointwise.{pointwise}
-use Rattle.bundle_tree_leaf.specs.declared.ident.Ident as v_ident
-use Rattle.bundle_tree_leaf.specs.declared.ident.IdentName as v_ident_name
-use Rattle.bundle_tree_leaf.specs.declared.lit.TplElement as v_tpl_element
+use Rattle.bundle_syntax.specs.declared.ident.Ident as v_ident
+use Rattle.bundle_syntax.specs.declared.ident.IdentName as v_ident_name
+use Rattle.bundle_syntax.specs.declared.lit.TplElement as v_tpl_element
 use Rattle.bundle_tree_ast.specs.declared.stmt.BlockStmt as v_block_stmt
 use Rattle.bundle_tree_ast.specs.declared.stmt.Stmt as v_stmt
 use Rattle.bundle_tree_ast.specs.declared.stmt.SwitchCase as v_switch_case
@@ -38,16 +38,16 @@ use Rattle.bundle_tree_ast.specs.declared.class.Param as v_param
 use Rattle.bundle_tree_ast.specs.declared.class.Class as v_class
 use Rattle.bundle_tree_ast.specs.declared.class.ClassMember as v_class_member
 use Rattle.bundle_tree_ast.specs.declared.class.ClassMember.TheBlock as block
-use Rattle.bundle_tree_piece.specs.declared.piece.Role.TheVariants as r
-use Rattle.bundle_tree_piece.specs.declared.piece.Role.{Role}
-use Rattle.bundle_tree_leaf.specs.declared.kind.ExportMetadata as v_meta
-use Rattle.bundle_tree_leaf.specs.declared.kind.VarDeclKind as v_var
-use Rattle.bundle_tree_leaf.specs.contracts.kind.ExportMetadataPartialEq.TheImpl as e_meta
-use Rattle.bundle_tree_leaf.specs.contracts.kind.VarDeclKindPartialEq.TheImpl as e_var
-use Rattle.bundle_tree_leaf.specs.contracts.lit.TplElementPartialEq.TheImpl as e_tpl_element
-use Rattle.bundle_tree_leaf.specs.contracts.operator.UpdateOpPartialEq.TheImpl as e_update
-use Rattle.bundle_tree_leaf.specs.contracts.ident.IdentPartialEq.TheImpl as e_ident
-use Rattle.bundle_tree_leaf.specs.contracts.ident.IdentNamePartialEq.TheImpl as e_ident_name
+use Rattle.bundle_syntax.specs.declared.piece.Role.TheVariants as r
+use Rattle.bundle_syntax.specs.declared.piece.Role.{Role}
+use Rattle.bundle_syntax.specs.declared.kind.ExportMetadata as v_meta
+use Rattle.bundle_syntax.specs.declared.kind.VarDeclKind as v_var
+use Rattle.bundle_syntax.specs.contracts.kind.ExportMetadataPartialEq.TheImpl as e_meta
+use Rattle.bundle_syntax.specs.contracts.kind.VarDeclKindPartialEq.TheImpl as e_var
+use Rattle.bundle_syntax.specs.contracts.lit.TplElementPartialEq.TheImpl as e_tpl_element
+use Rattle.bundle_syntax.specs.contracts.operator.UpdateOpPartialEq.TheImpl as e_update
+use Rattle.bundle_syntax.specs.contracts.ident.IdentPartialEq.TheImpl as e_ident
+use Rattle.bundle_syntax.specs.contracts.ident.IdentNamePartialEq.TheImpl as e_ident_name
 use Rattle.bundle_tree_ast.specs.declared.prop.PropName.TheVariants as i_prop_name
 use Rattle.bundle_tree_ast.specs.declared.prop.MemberProp.TheVariants as i_member_prop
 use Rattle.bundle_tree_ast.specs.declared.prop.SuperProp.TheVariants as i_super_prop
@@ -67,8 +67,8 @@ use Rattle.bundle_tree_ast.specs.contracts.pat.AssignTarget as c_assign_target
 use Rattle.bundle_tree_ast.specs.contracts.class.ClassMember as c_class_member
 use Rattle.bundle_tree_ast.specs.declared.class.ClassMember.TheViews as views
 use denote.Hole.Carrier as carrier
-use Rattle.bundle_tree_piece.specs.Item as h
-use Rattle.bundle_tree_piece.specs.Item.{Item, Head}
+use Rattle.bundle_syntax.specs.Item as h
+use Rattle.bundle_syntax.specs.Item.{Item, Head}
 use Rattle.bundle_tree_listed.specs.Tree as k
 use Rattle.bundle_tree_listed.specs.Tree.{node, is_given, option_items, ident_items, ident_name_items, private_name_items, binding_ident_items, str_items, number_items, big_int_items, regex_items, lit_items, tpl_element_items, stmt_items, for_init_items, for_head_items, held_option_boxed_stmt, held_option_block_stmt, held_option_catch_clause, held_option_for_init, row_of_stmt, row_of_switch_case, decl_items, row_of_var_declarator, expr_items, arrow_body_items, held_callee, held_opt_chain_base, held_option_expr, held_option_boxed_expr, place_of_expr_or_spread, held_option_each_expr_or_spread, row_of_expr, row_of_expr_or_spread, row_of_option_expr_or_spread, prop_or_spread_items, prop_items, held_prop_name, held_member_prop, held_super_prop, row_of_prop_or_spread, pat_items, object_pat_prop_items, assign_target_items, held_option_pat, place_of_pat, row_of_pat, row_of_option_pat, row_of_object_pat_prop, class_member_items, row_of_param, row_of_class_member}
 use Rattle.bundle_tree_listed.proofs.Rows as all

@@ -4,17 +4,19 @@
 #![tactic(auto)]
 
 pub mod same;
+pub mod walk;
 
 ghost use Rattle.std.specs.Prelude.{◌≡◌, [], IfOk, map};
 ghost use Rattle.std.specs.List.{flat_map};
-ghost use Rattle.bundle_tree_piece.specs.Item as h;
-ghost use Rattle.bundle_tree_piece.specs.Item.{item_of};
+ghost use Rattle.bundle_syntax.specs.Item as h;
+ghost use Rattle.bundle_syntax.specs.Item.{item_of};
 ghost use Rattle.bundle_tree_listed.specs.Tree.{expr_items, key_value_prop_items, module_item_items, module_items, node};
 
+pub use bundle_syntax::{Node, Piece, Role};
 use bundle_tree_ast::{Expr, KeyValueProp, Module, ModuleItem};
-pub use bundle_tree_piece::{Node, Piece, Role};
-use bundle_tree_walk::Walk;
+pub use same::{is_same, is_same_expr, is_same_module};
 use std::alloc::{AllocError, Global};
+pub use walk::Walk;
 
 /// The list of the items of a module, each in field 0 as in a `Module`. Refused only where memory runs
 /// out.
@@ -28,10 +30,10 @@ pub fn pieces<'a>(alloc: Global, items: &'a [ModuleItem]) -> Result<Vec<Piece<'a
 }
 
 /// The list of a module, from its beginning to its end. Refused only where memory runs out.
-pub fn pieces_of_module<'a>(alloc: Global, module: &'a Module) -> Result<Vec<Piece<'a>>, AllocError>
-    ensures { IfOk result (λ list. map item_of list.items ≡ module_items 0 «module».now) }
+pub fn pieces_of_module<'a>(alloc: Global, tree: &'a Module) -> Result<Vec<Piece<'a>>, AllocError>
+    ensures { IfOk result (λ list. map item_of list.items ≡ module_items 0 tree.now) }
 {
-    pieces_of_body(alloc, module.body.as_slice())
+    pieces_of_body(alloc, tree.body.as_slice())
 }
 
 /// The list of a module with this body, from its beginning to its end. Refused only where memory runs out.
@@ -83,5 +85,3 @@ pub fn pieces_of_properties<'a>(
     walk.each_key_value_prop(0, properties)?;
     Ok(walk.into_pieces())
 }
-
-pub use same::{is_same, is_same_expr, is_same_module};

@@ -17,10 +17,10 @@ pub fn is_same(items: &[ModuleItem], other: &[ModuleItem]) -> bool
 }
 
 /// Whether two modules are equal, as `==` tells: exactly where their lists are.
-pub fn is_same_module(module: &Module, other: &Module) -> bool
-    ensures { IsTrue result ↔ (module_items 0 «module».now ≡ module_items 0 other.now) }
+pub fn is_same_module(tree: &Module, other: &Module) -> bool
+    ensures { IsTrue result ↔ (module_items 0 tree.now ≡ module_items 0 other.now) }
 {
-    module == other
+    tree == other
 }
 
 /// Whether two expressions are equal, as `==` tells: exactly where their lists are.

@@ -2,7 +2,7 @@
 use Rattle.std.proofs.Common.{◌≡◌, ℕ, ◌++◌, [], ◌∷◌, refl, ap, sym, ◌∙◌, Vec, Option, Global}
 use Rattle.std.specs.List.{flat_map}
 use Rattle.std.proofs.lemmas.Grind.{common_steps, flat_map-append}
-use Rattle.bundle_tree_piece.specs.Item as h
+use Rattle.bundle_syntax.specs.Item as h
 use Rattle.bundle_tree_listed.specs.Tree as k
 use Rattle.bundle_tree_listed.specs.Tree.{stmt_items}
 use Rattle.bundle_tree_ast.specs.declared.stmt.Stmt as v_stmt
@@ -16,8 +16,8 @@ use Rattle.bundle_tree_ast.specs.declared.pat.ObjectPatProp as v_object_pat_prop
 use Rattle.bundle_tree_ast.specs.declared.class.Param as v_param
 use Rattle.bundle_tree_ast.specs.declared.class.ClassMember as v_class_member
 use Rattle.bundle_tree_ast.specs.declared.class.ClassMember.TheBlock as block
-use Rattle.bundle_tree_piece.specs.declared.piece.Role.TheVariants as r
-use Rattle.bundle_tree_piece.specs.declared.piece.Role.{Role}
+use Rattle.bundle_syntax.specs.declared.piece.Role.TheVariants as r
+use Rattle.bundle_syntax.specs.declared.piece.Role.{Role}
 
 row_of_param_is : (field : ℕ) (n : _) (row : block.Row_of-ClassMember-Constructor-0-1 n) → k.row_of_param field row ≡ flat_map (k.param_items field) (block.items-the_row-ClassMember-Constructor-0-1 n row)
 unfolding stmt_items

@@ -4,23 +4,23 @@ use Rattle.std.specs.Prelude.{ℕ, Bool as Truth, true, false, List, [], ◌∷�
 use Rattle.std.specs.List.{flat_map}
 use Rattle.std.specs.declared.vec.Vec.{Vec}
 use Rattle.std.specs.declared.alloc.Global.{Global}
-use Rattle.bundle_tree_leaf.specs.declared.ident.Ident as v_ident
-use Rattle.bundle_tree_leaf.specs.declared.ident.IdentName as v_ident_name
-use Rattle.bundle_tree_leaf.specs.declared.ident.PrivateName as v_private_name
-use Rattle.bundle_tree_leaf.specs.declared.ident.BindingIdent as v_binding_ident
-use Rattle.bundle_tree_leaf.specs.declared.lit.Str as v_str
-use Rattle.bundle_tree_leaf.specs.declared.lit.Number as v_number
-use Rattle.bundle_tree_leaf.specs.declared.lit.BigInt as v_big_int
-use Rattle.bundle_tree_leaf.specs.declared.lit.Regex as v_regex
-use Rattle.bundle_tree_leaf.specs.declared.lit.Lit as v_lit
-use Rattle.bundle_tree_leaf.specs.declared.lit.Lit.TheVariants as i_lit
-use Rattle.bundle_tree_leaf.specs.declared.lit.TplElement as v_tpl_element
-use Rattle.bundle_tree_leaf.specs.declared.specifier.ModuleExportName as v_module_export_name
-use Rattle.bundle_tree_leaf.specs.declared.specifier.ModuleExportName.TheVariants as i_module_export_name
-use Rattle.bundle_tree_leaf.specs.declared.specifier.ImportSpecifier as v_import_specifier
-use Rattle.bundle_tree_leaf.specs.declared.specifier.ImportSpecifier.TheVariants as i_import_specifier
-use Rattle.bundle_tree_leaf.specs.declared.specifier.ExportSpecifier as v_export_specifier
-use Rattle.bundle_tree_leaf.specs.declared.specifier.ExportSpecifier.TheVariants as i_export_specifier
+use Rattle.bundle_syntax.specs.declared.ident.Ident as v_ident
+use Rattle.bundle_syntax.specs.declared.ident.IdentName as v_ident_name
+use Rattle.bundle_syntax.specs.declared.ident.PrivateName as v_private_name
+use Rattle.bundle_syntax.specs.declared.ident.BindingIdent as v_binding_ident
+use Rattle.bundle_syntax.specs.declared.lit.Str as v_str
+use Rattle.bundle_syntax.specs.declared.lit.Number as v_number
+use Rattle.bundle_syntax.specs.declared.lit.BigInt as v_big_int
+use Rattle.bundle_syntax.specs.declared.lit.Regex as v_regex
+use Rattle.bundle_syntax.specs.declared.lit.Lit as v_lit
+use Rattle.bundle_syntax.specs.declared.lit.Lit.TheVariants as i_lit
+use Rattle.bundle_syntax.specs.declared.lit.TplElement as v_tpl_element
+use Rattle.bundle_syntax.specs.declared.specifier.ModuleExportName as v_module_export_name
+use Rattle.bundle_syntax.specs.declared.specifier.ModuleExportName.TheVariants as i_module_export_name
+use Rattle.bundle_syntax.specs.declared.specifier.ImportSpecifier as v_import_specifier
+use Rattle.bundle_syntax.specs.declared.specifier.ImportSpecifier.TheVariants as i_import_specifier
+use Rattle.bundle_syntax.specs.declared.specifier.ExportSpecifier as v_export_specifier
+use Rattle.bundle_syntax.specs.declared.specifier.ExportSpecifier.TheVariants as i_export_specifier
 use Rattle.bundle_tree_ast.specs.declared.module.Module as v_module
 use Rattle.bundle_tree_ast.specs.declared.module.ModuleItem as v_module_item
 use Rattle.bundle_tree_ast.specs.declared.module.ModuleItem.TheVariants as i_module_item
@@ -65,10 +65,10 @@ use Rattle.bundle_tree_ast.specs.declared.class.Param as v_param
 use Rattle.bundle_tree_ast.specs.declared.class.Class as v_class
 use Rattle.bundle_tree_ast.specs.declared.class.ClassMember as v_class_member
 use Rattle.bundle_tree_ast.specs.declared.class.ClassMember.TheBlock as block
-use Rattle.bundle_tree_piece.specs.declared.piece.Role.TheVariants as r
-use Rattle.bundle_tree_piece.specs.declared.piece.Role.{Role}
-use Rattle.bundle_tree_piece.specs.Item as h
-use Rattle.bundle_tree_piece.specs.Item.{Item, Head}
+use Rattle.bundle_syntax.specs.declared.piece.Role.TheVariants as r
+use Rattle.bundle_syntax.specs.declared.piece.Role.{Role}
+use Rattle.bundle_syntax.specs.Item as h
+use Rattle.bundle_syntax.specs.Item.{Item, Head}
 
 -- a node: its beginning, what stands inside, its end
 abbrev pub node : ℕ → Head → List Item → List Item

@@ -40,10 +40,10 @@ impl Config {
         ensures limit { result.max_modules ≡ 4294967295 }
     {
         Config {
+            module: ModuleType::default(),
             require: false,
             disable_hygiene: false,
             external_modules: Vec::new(alloc),
-            module: ModuleType::default(),
             max_modules: u32::MAX,
         }
     }

@@ -1,8 +1,8 @@
 -- An `await` stands outside functions by the nodes that are open exactly if it does by its place.
 use Rattle.std.proofs.Common.{◌≡◌, ℕ, suc, ◌+◌, ◌==◌, ◌&&◌, ◌||◌, Bool, true, false, not, cond, List, [], ◌∷◌, ◌++◌, Option, Some, None, slice_get, drop, refl, ap, sym, ◌∙◌, arith}
 use Rattle.std.specs.List.{list_any}
-use Rattle.bundle_tree_piece.specs.Item as h
-use Rattle.bundle_tree_piece.specs.Item.{Item, Head}
+use Rattle.bundle_syntax.specs.Item as h
+use Rattle.bundle_syntax.specs.Item.{Item, Head}
 use Rattle.bundle_rules.specs.Places.{Around, Spot, in_field, outer_path, past, path_to, path_to_option, spot_before}
 use Rattle.bundle_rules.specs.Scopes.{Es, Scope, Inner, ScopeKind, Parameters, Block, FunctionName, ClassName, block_in, block_kind, is_default, kind_of_scope, scope_at, scopes_around}
 use Rattle.bundle_rules.specs.Homes.{is_parameters}

@@ -1,9 +1,9 @@
 -- Worked examples of `Edits`: a list beside what it becomes. The change is to `y` with context 7.
 use Rattle.std.proofs.Common.{◌≡◌, refl, ℕ, List, [], ◌∷◌, ◌++◌, Bool, true, false, None, codes}
-use Rattle.bundle_tree_piece.specs.Item as h
-use Rattle.bundle_tree_piece.specs.Item.{Item}
-use Rattle.bundle_tree_piece.specs.declared.piece.Role.{Role}
-use Rattle.bundle_tree_piece.specs.declared.piece.Role.TheVariants as r
+use Rattle.bundle_syntax.specs.Item as h
+use Rattle.bundle_syntax.specs.Item.{Item}
+use Rattle.bundle_syntax.specs.declared.piece.Role.{Role}
+use Rattle.bundle_syntax.specs.declared.piece.Role.TheVariants as r
 use Rattle.bundle_rules.specs.Rebuilds.{Change}
 use Rattle.bundle_tree_places.specs.Edits.{Anywhere, InObject, InSpecifier, Edits, Nothing, Joined, Hole, Word, Name, Inside, Shorthand, node, is_plain}
 

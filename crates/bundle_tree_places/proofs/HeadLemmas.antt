@@ -1,9 +1,9 @@
 -- Whether a list has a node of a kind is asked of its elements one by one.
 use Rattle.std.proofs.Common.{◌≡◌, Bool, true, false, ◌||◌, List, [], ◌∷◌, map, refl}
 use Rattle.std.specs.List.{list_any}
-use Rattle.bundle_tree_piece.specs.declared.piece.Piece.{Piece}
-use Rattle.bundle_tree_piece.specs.declared.piece.Piece.TheVariants as p
-use Rattle.bundle_tree_piece.specs.Item.{Head, head_of, item_of}
+use Rattle.bundle_syntax.specs.declared.piece.Piece.{Piece}
+use Rattle.bundle_syntax.specs.declared.piece.Piece.TheVariants as p
+use Rattle.bundle_syntax.specs.Item.{Head, head_of, item_of}
 use Rattle.bundle_rules.specs.Nodes.{has_head}
 use Rattle.bundle_tree_places.specs.Heads.{begins_here}
 

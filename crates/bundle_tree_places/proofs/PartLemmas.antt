@@ -2,12 +2,12 @@
 use Rattle.std.proofs.Common.{◌≡◌, ℕ, zero, suc, ◌+◌, ◌<◌, Bool, true, false, List, [], ◌∷◌, ◌++◌, take, drop, append_assoc, append-nil, refl, ap, sym, ◌∙◌, arith, map}
 use Rattle.std.specs.Prelude.{filter, if◌then◌else◌}
 use Rattle.std.proofs.lemmas.List.{drop-drop, drop-map, map-append, take-map}
-use Rattle.bundle_tree_piece.specs.declared.piece.Piece.{Piece}
-use Rattle.bundle_tree_piece.specs.Item.{Item, item_of}
+use Rattle.bundle_syntax.specs.declared.piece.Piece.{Piece}
+use Rattle.bundle_syntax.specs.Item.{Item, item_of}
 use Rattle.bundle_rules.specs.Nodes.{side_by_side, begins_in, first_or_nothing}
 use Rattle.bundle_tree_places.specs.Lengths.{length_of_first, begins_node, kept_in}
 use Rattle.bundle_tree_places.specs.Parted.{part_items}
-use Rattle.bundle_tree_places.specs.declared.parts.Part.{Part}
+use Rattle.bundle_tree_places.specs.declared.parts.NodeAt.{NodeAt}
 use Rattle.bundle_tree_places.proofs.LengthLemmas.{nodes-first, nodes-none}
 
 -- the nodes of a list that begins with one, where it is cut
@@ -20,18 +20,18 @@ nodes-cut rest n begins long =
     ∙ ap (λ l. map item_of (take n rest) ∷ side_by_side zero l) (drop-map item_of n rest)
 
 -- the first node was found, and those behind it are left
-pub parts-found : (all : List (List Item)) (found more : List Part) (part : Part) (pieces rest : List Piece) (at n : ℕ) → rest ≡ drop at pieces → begins_node (map item_of rest) ≡ true → n ≡ length_of_first zero (map item_of rest) → part.pieces.now ≡ take n rest → more ≡ found ++ part ∷ [] → all ≡ map part_items found ++ side_by_side zero (map item_of (drop at pieces)) → all ≡ map part_items more ++ side_by_side zero (map item_of (drop (at + n) pieces))
+pub parts-found : (all : List (List Item)) (found more : List NodeAt) (part : NodeAt) (pieces rest : List Piece) (at n : ℕ) → rest ≡ drop at pieces → begins_node (map item_of rest) ≡ true → n ≡ length_of_first zero (map item_of rest) → part.pieces.now ≡ take n rest → more ≡ found ++ part ∷ [] → all ≡ map part_items found ++ side_by_side zero (map item_of (drop at pieces)) → all ≡ map part_items more ++ side_by_side zero (map item_of (drop (at + n) pieces))
 parts-found all found more part pieces rest at n is begins long there pushed before =
     before
     ∙ ap (λ (l : List Piece). map part_items found ++ side_by_side zero (map item_of l)) (sym is)
     ∙ ap (λ (nodes : List (List Item)). map part_items found ++ nodes) (nodes-cut rest n begins long ∙ ap (λ (node : List Piece). map item_of node ∷ side_by_side zero (map item_of (drop n rest))) (sym there))
     ∙ sym (append_assoc (map part_items found) (part_items part ∷ []) (side_by_side zero (map item_of (drop n rest))))
     ∙ ap (λ (nodes : List (List Item)). nodes ++ side_by_side zero (map item_of (drop n rest))) (sym (map-append part_items found (part ∷ [])))
-    ∙ ap (λ (l : List Part). map part_items l ++ side_by_side zero (map item_of (drop n rest))) (sym pushed)
+    ∙ ap (λ (l : List NodeAt). map part_items l ++ side_by_side zero (map item_of (drop n rest))) (sym pushed)
     ∙ ap (λ (l : List Piece). map part_items more ++ side_by_side zero (map item_of l)) (ap (drop n) is ∙ drop-drop n at pieces)
 
 -- all were found
-pub parts-all : (all : List (List Item)) (found : List Part) (pieces : List Piece) (at : ℕ) → begins_node (map item_of (drop at pieces)) ≡ false → all ≡ map part_items found ++ side_by_side zero (map item_of (drop at pieces)) → map part_items found ≡ all
+pub parts-all : (all : List (List Item)) (found : List NodeAt) (pieces : List Piece) (at : ℕ) → begins_node (map item_of (drop at pieces)) ≡ false → all ≡ map part_items found ++ side_by_side zero (map item_of (drop at pieces)) → map part_items found ≡ all
 parts-all all found pieces at none before =
     sym (before ∙ ap (λ (nodes : List (List Item)). map part_items found ++ nodes) (nodes-none (map item_of (drop at pieces)) none) ∙ append-nil (map part_items found))
 
@@ -85,7 +85,7 @@ filter-kept field node more = by (begins_in field node)
     by false = refl
 
 -- the first node was found and kept if it lies in the field, and those behind it are left
-pub kept-found : (field : ℕ) (all : List (List Item)) (found more : List Part) (node pieces rest : List Piece) (at n : ℕ) → rest ≡ drop at pieces → begins_node (map item_of rest) ≡ true → n ≡ length_of_first zero (map item_of rest) → node ≡ take n rest → map part_items more ≡ map part_items found ++ kept_in field (map item_of node) → all ≡ map part_items found ++ all_from field (drop at pieces) → all ≡ map part_items more ++ all_from field (drop (at + n) pieces)
+pub kept-found : (field : ℕ) (all : List (List Item)) (found more : List NodeAt) (node pieces rest : List Piece) (at n : ℕ) → rest ≡ drop at pieces → begins_node (map item_of rest) ≡ true → n ≡ length_of_first zero (map item_of rest) → node ≡ take n rest → map part_items more ≡ map part_items found ++ kept_in field (map item_of node) → all ≡ map part_items found ++ all_from field (drop at pieces) → all ≡ map part_items more ++ all_from field (drop (at + n) pieces)
 kept-found field all found more node pieces rest at n is begins long there pushed before =
     before
     ∙ ap (λ (l : List Piece). map part_items found ++ all_from field l) (sym is)

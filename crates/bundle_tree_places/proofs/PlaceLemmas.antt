@@ -6,8 +6,8 @@ use Rattle.std.proofs.lemmas.Bool.{cases_eq}
 use Rattle.std.proofs.lemmas.List.{get_or-reverse, get_or_append_left, length-reverse, nil_from_length, reverse-append}
 use Rattle.std.proofs.lemmas.Option.{none-some, same_Some}
 use Rattle.std.proofs.Math.Seq.{get_or-append_seam}
-use Rattle.bundle_tree_piece.specs.Item as h
-use Rattle.bundle_tree_piece.specs.Item.{Item, Head, head_of}
+use Rattle.bundle_syntax.specs.Item as h
+use Rattle.bundle_syntax.specs.Item.{Item, Head, head_of}
 use Rattle.bundle_rules.specs.Places.{Around, in_field, outer_path, path_to, path_to_option, spot_before}
 use Rattle.bundle_rules.specs.Nodes.{Text, field_of, node_at}
 use Rattle.bundle_rules.specs.Reads.{is_optional_base, is_optional_chain, is_written_to, passes_writes, property_of, writes}
@@ -16,7 +16,7 @@ use Rattle.bundle_tree_places.specs.Seconds.{text_of}
 use Rattle.bundle_tree_places.specs.Stated.{is_in_statement, is_stated_in, states_nothing}
 use Rattle.bundle_tree_places.specs.declared.places.Frame.{Frame}
 use Rattle.bundle_tree_places.specs.declared.places.Spot.{Spot}
-use Rattle.bundle_tree_places.specs.declared.places.Told.{Told}
+use Rattle.bundle_tree_places.specs.declared.places.ReadAt.{ReadAt}
 use Rattle.bundle_tree_places.proofs.SecondLemmas.{property_is}
 
 -- ---- the innermost of the nodes around a place
@@ -144,17 +144,17 @@ told_field path (h.Hole its) field is = ap (λ n. in_field n path) (same_Some it
 told_field path h.Close field is = absurd (none-some field is)
 
 -- what is told of an element is told of its place
-pub is_told : (tree : List Item) (place : ℕ) (item : Item) (told : Told) → slice_get tree place ≡ Some item → text_of told.word ≡ read_in (path_to (spot_before tree place).path item) (property_of (node_at tree place)) → ((field : ℕ) → field_of item ≡ Some field → told.is_stated ≡ is_in_statement (path_to (spot_before tree place).path item)) → IsTold tree place told
+pub is_told : (tree : List Item) (place : ℕ) (item : Item) (told : ReadAt) → slice_get tree place ≡ Some item → text_of told.word ≡ read_in (path_to (spot_before tree place).path item) (property_of (node_at tree place)) → ((field : ℕ) → field_of item ≡ Some field → told.is_stated ≡ is_in_statement (path_to (spot_before tree place).path item)) → IsTold tree place told
 is_told tree place item told at word stated = record {
   word = word ∙ ap (λ (x : Option Item). read_in (path_to_option (spot_before tree place).path x) (property_of (node_at tree place))) (sym at);
   stated = λ field e. stated field (ap (λ (x : Option Item). option_and_then field_of x) (sym at) ∙ e) ∙ ap (λ (x : Option Item). is_in_statement (path_to_option (spot_before tree place).path x)) (sym at);
 }
 
 -- one place more is told
-pub told_push : (tree : List Item) (old : List Told) (n : ℕ) (told : Told) → length old ≡ n → ((p : ℕ) → p < n → IsTold tree p (get_or old p no_told)) → IsTold tree n told → (p : ℕ) → p < n + 1 → IsTold tree p (get_or (old ++ told ∷ []) p no_told)
+pub told_push : (tree : List Item) (old : List ReadAt) (n : ℕ) (told : ReadAt) → length old ≡ n → ((p : ℕ) → p < n → IsTold tree p (get_or old p no_told)) → IsTold tree n told → (p : ℕ) → p < n + 1 → IsTold tree p (get_or (old ++ told ∷ []) p no_told)
 told_push tree old n told len each one p l = elim (cases_eq p n) [
   | inl e ↦
       let last : get_or (old ++ told ∷ []) p no_told ≡ told = ap (λ k. get_or (old ++ told ∷ []) k no_told) (e ∙ sym len) ∙ get_or-append_seam old told [] no_told in
-      subst (λ (x : Told). IsTold tree p x) (sym last) (subst (λ k. IsTold tree k told) (sym e) one)
-  | inr ne ↦ subst (λ (x : Told). IsTold tree p x) (sym (get_or_append_left old (told ∷ []) no_told p (omega (arith, l, ne, len)))) (each p (omega (arith, l, ne)))
+      subst (λ (x : ReadAt). IsTold tree p x) (sym last) (subst (λ k. IsTold tree k told) (sym e) one)
+  | inr ne ↦ subst (λ (x : ReadAt). IsTold tree p x) (sym (get_or_append_left old (told ∷ []) no_told p (omega (arith, l, ne, len)))) (each p (omega (arith, l, ne)))
 ]

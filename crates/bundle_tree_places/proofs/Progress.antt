@@ -1,8 +1,8 @@
 -- How far a list was rebuilt.
 use Rattle.std.specs.Prelude.{◌≡◌, ℕ, ◌+◌, Bool, true, false, List, [], ◌∷◌, ◌++◌, take, drop, reverse, slice_get, count_by}
-use Rattle.bundle_tree_piece.specs.declared.piece.Role.TheVariants.{Word as IsWord}
-use Rattle.bundle_tree_piece.specs.Item as h
-use Rattle.bundle_tree_piece.specs.Item.{Item}
+use Rattle.bundle_syntax.specs.declared.piece.Role.TheVariants.{Word as IsWord}
+use Rattle.bundle_syntax.specs.Item as h
+use Rattle.bundle_syntax.specs.Item.{Item}
 use Rattle.bundle_rules.specs.Places as places
 use Rattle.bundle_rules.specs.Places.{spot_before}
 use Rattle.bundle_rules.specs.Meaning.{has_default}

@@ -3,10 +3,10 @@ use Rattle.std.proofs.Common.{◌≡◌, ℕ, zero, suc, ◌+◌, ◌==◌, ◌&
 use Rattle.std.specs.Prelude.{slice_get, count_by, fold, if◌then◌else◌}
 use Rattle.std.proofs.lemmas.Option.{none-some}
 use Rattle.std.proofs.lemmas.List.{reverse-append}
-use Rattle.bundle_tree_piece.specs.declared.piece.Role.{Role}
-use Rattle.bundle_tree_piece.specs.declared.piece.Role.TheVariants.{Binding, Reference, Word}
-use Rattle.bundle_tree_piece.specs.Item as h
-use Rattle.bundle_tree_piece.specs.Item.{Item, Head}
+use Rattle.bundle_syntax.specs.declared.piece.Role.{Role}
+use Rattle.bundle_syntax.specs.declared.piece.Role.TheVariants.{Binding, Reference, Word}
+use Rattle.bundle_syntax.specs.Item as h
+use Rattle.bundle_syntax.specs.Item.{Item, Head}
 use Rattle.bundle_rules.specs.Places as places
 use Rattle.bundle_rules.specs.Places.{Spot, start, past, path_past, path_to, path_to_option, path_at, in_field, outer_path, spot_before, occurrences_from}
 use Rattle.bundle_rules.proofs.PlacesLemmas.{spot_before-next}

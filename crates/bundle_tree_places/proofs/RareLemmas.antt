@@ -1,7 +1,7 @@
 -- A list without any of what few modules have has none of each kind.
 use Rattle.std.proofs.Common.{◌≡◌, ◌&&◌, ◌||◌, Bool, true, false, not, List, [], ◌∷◌, refl, ap, sym, ◌∙◌}
-use Rattle.bundle_tree_piece.specs.Item as h
-use Rattle.bundle_tree_piece.specs.Item.{Item, Head}
+use Rattle.bundle_syntax.specs.Item as h
+use Rattle.bundle_syntax.specs.Item.{Item, Head}
 use Rattle.bundle_rules.specs.Awaits.{awaits, awaits_outside}
 use Rattle.bundle_rules.specs.Bundle.{is_with}
 use Rattle.bundle_rules.specs.Entries.{has_import_meta, is_import_meta}

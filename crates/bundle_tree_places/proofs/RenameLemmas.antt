@@ -8,14 +8,14 @@ use Rattle.std.specs.declared.cmp.Ordering.TheVariants.{Less, Equal, Greater}
 use Rattle.std.specs.Cmp.Lexicographic.{slice_cmp}
 use Rattle.std.proofs.lemmas.Bool.Decides.{nat_tests}
 use Rattle.std.proofs.lemmas.Map.Text.{is_eq-slice_cmp}
-use Rattle.bundle_tree_piece.specs.Item.{Item}
+use Rattle.bundle_syntax.specs.Item.{Item}
 use Rattle.bundle_rules.specs.Places.{occurrences, is_binding}
 use Rattle.bundle_rules.specs.Places as places
 use Rattle.bundle_rules.specs.Idents as terms
 use Rattle.bundle_rules.specs.Idents.{Ident, idents}
 use Rattle.bundle_rules.specs.Rebuilds.{Change, listed, change_to, changes_to, ident_eq, becomes_by, rebuilt, with_idents, renamed_by}
 use Rattle.bundle_tree_places.specs.declared.mark.Name.{Name}
-use Rattle.bundle_tree_places.specs.declared.mark.Occurrence.{Occurrence}
+use Rattle.bundle_tree_places.specs.declared.mark.OccurrenceRef.{OccurrenceRef}
 use Rattle.bundle_tree_places.specs.Marks.{ident_of, listed_of, pair_of_idents}
 
 -- Identifiers.
@@ -26,7 +26,7 @@ map-map f g [] = refl
 map-map f g (x ∷ xs) = ap (λ ys. f (g x) ∷ ys) (map-map f g xs)
 
 -- the identifiers of a tree are those of what is listed
-pub idents-listed : (tree : List Item) (all : List Occurrence) → map listed_of all ≡ listed tree → map (λ o. ident_of o.id) all ≡ idents tree
+pub idents-listed : (tree : List Item) (all : List OccurrenceRef) → map listed_of all ≡ listed tree → map (λ o. ident_of o.id) all ≡ idents tree
 idents-listed tree all e =
     sym (map-map (λ pair. pair.0) listed_of all)
     ∙ ap (map (λ pair. pair.0)) e
@@ -45,11 +45,11 @@ changes_to-none old new (x ∷ xs) (y ∷ ys) (inl e) = absurd (omega (arith, e)
 changes_to-none old new (x ∷ xs) (y ∷ ys) (inr e) = absurd (omega (arith, e))
 
 -- the rebuilt tree, where the changes are those to other identifiers in turn
-pub with_idents-is : (tree : List Item) (new : List Ident) (all : List Occurrence) (changes : List Change) → map listed_of all ≡ listed tree → changes ≡ changes_to (map (λ o. ident_of o.id) all) new → rebuilt tree changes ≡ with_idents tree new
+pub with_idents-is : (tree : List Item) (new : List Ident) (all : List OccurrenceRef) (changes : List Change) → map listed_of all ≡ listed tree → changes ≡ changes_to (map (λ o. ident_of o.id) all) new → rebuilt tree changes ≡ with_idents tree new
 with_idents-is tree new all changes listed_is is = ap (rebuilt tree) (is ∙ ap (λ olds. changes_to olds new) (idents-listed tree all listed_is))
 
 -- the rebuilt tree, where the changes are those to what identifiers become
-pub renamed-is : (tree : List Item) (pairs : List (Ident × Ident)) (all : List Occurrence) (changes : List Change) → map listed_of all ≡ listed tree → changes ≡ map (λ o. change_to (ident_of o.id) (becomes_by pairs (ident_of o.id))) all → rebuilt tree changes ≡ renamed_by pairs tree
+pub renamed-is : (tree : List Item) (pairs : List (Ident × Ident)) (all : List OccurrenceRef) (changes : List Change) → map listed_of all ≡ listed tree → changes ≡ map (λ o. change_to (ident_of o.id) (becomes_by pairs (ident_of o.id))) all → rebuilt tree changes ≡ renamed_by pairs tree
 renamed-is tree pairs all changes listed_is is =
     ap (rebuilt tree) (is ∙ sym (changes_to-map (becomes_by pairs) (λ o. ident_of o.id) all) ∙ ap (λ olds. changes_to olds (map (becomes_by pairs) olds)) (idents-listed tree all listed_is))
 

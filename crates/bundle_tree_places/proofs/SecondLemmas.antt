@@ -5,8 +5,8 @@ use Rattle.std.specs.Option.{option_to_list}
 use Rattle.std.proofs.lemmas.Bool.{cases_eq}
 use Rattle.std.proofs.lemmas.Option.{none-some, same_Some}
 use Rattle.std.proofs.lemmas.List.{get_or-set_same, get_or-set_other, nil_from_length, reverse-append}
-use Rattle.bundle_tree_piece.specs.Item as h
-use Rattle.bundle_tree_piece.specs.Item.{Item, Head}
+use Rattle.bundle_syntax.specs.Item as h
+use Rattle.bundle_syntax.specs.Item.{Item, Head}
 use Rattle.bundle_rules.specs.Nodes.{Text, put_first, side_by_side, begins_in, in_field, first_or_nothing, child, begins_with, node_at}
 use Rattle.bundle_rules.specs.Reads.{is_member, plain_word, property_of}
 use Rattle.bundle_tree_places.specs.Seconds.{AreTops, second_from, second_of, word_of, word_at, is_member_item}

@@ -1,7 +1,7 @@
 -- Which elements of a list begin nodes of a kind.
 use Rattle.std.specs.Prelude.{Bool, true, false, List, [], ◌∷◌}
-use Rattle.bundle_tree_piece.specs.Item as h
-use Rattle.bundle_tree_piece.specs.Item.{Item, Head}
+use Rattle.bundle_syntax.specs.Item as h
+use Rattle.bundle_syntax.specs.Item.{Item, Head}
 
 -- whether a node begins here whose head passes the test
 abbrev pub begins_here : (Head → Bool) → Item → Bool

@@ -1,8 +1,8 @@
 -- How long the node is with which a list begins.
 use Rattle.std.specs.Prelude.{ℕ, zero, suc, Bool, true, false, List, [], ◌∷◌, Option, Some, None, if◌then◌else◌}
 use Rattle.bundle_rules.specs.Nodes.{begins_in}
-use Rattle.bundle_tree_piece.specs.Item as h
-use Rattle.bundle_tree_piece.specs.Item.{Item, Head}
+use Rattle.bundle_syntax.specs.Item as h
+use Rattle.bundle_syntax.specs.Item.{Item, Head}
 
 -- how many nodes are open after an element, where so many are before it; none where it ends the first node
 abbrev pub depth_past : ℕ → Item → Option ℕ

@@ -1,7 +1,7 @@
 -- Awaits outside functions, by the nodes that are open (ECMA-262, 15.8 and 16.2).
 use Rattle.std.specs.Prelude.{ℕ, ◌==◌, ◌&&◌, ◌||◌, Bool, true, false, not, List, [], ◌∷◌, if◌then◌else◌}
-use Rattle.bundle_tree_piece.specs.Item as h
-use Rattle.bundle_tree_piece.specs.Item.{Item, Head}
+use Rattle.bundle_syntax.specs.Item as h
+use Rattle.bundle_syntax.specs.Item.{Item, Head}
 use Rattle.bundle_rules.specs.Awaits.{awaits}
 use Rattle.bundle_tree_places.specs.declared.awaits.Standing.{Standing}
 use Rattle.bundle_tree_places.specs.declared.awaits.Standing.TheVariants.{Outside, Inside, KeyOutside}

@@ -1,6 +1,6 @@
 -- The nodes that few modules have.
 use Rattle.std.specs.Prelude.{Bool, ◌||◌}
-use Rattle.bundle_tree_piece.specs.Item.{Head}
+use Rattle.bundle_syntax.specs.Item.{Head}
 use Rattle.bundle_rules.specs.Awaits.{awaits}
 use Rattle.bundle_rules.specs.Bundle.{is_with}
 use Rattle.bundle_rules.specs.Entries.{is_import_meta}

@@ -1,8 +1,8 @@
 -- Where what stands in the second field of a node begins.
 use Rattle.std.specs.Prelude.{◌≡◌, ℕ, Bool, false, zero, suc, ◌+◌, ◌<◌, nat_eq, List, [], ◌∷◌, Option, Some, None, cond, drop, length, option_map, slice_get, slice_index_or, reverse}
 use Rattle.std.specs.Borrow.{Bor}
-use Rattle.bundle_tree_piece.specs.Item as h
-use Rattle.bundle_tree_piece.specs.Item.{Item}
+use Rattle.bundle_syntax.specs.Item as h
+use Rattle.bundle_syntax.specs.Item.{Item}
 use Rattle.bundle_rules.specs.Nodes.{Text}
 use Rattle.bundle_rules.specs.Reads.{is_member, plain_word}
 

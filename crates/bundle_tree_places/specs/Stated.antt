@@ -1,7 +1,7 @@
 -- What lies in a top item that states something.
 use Rattle.std.specs.Prelude.{Bool, true, false, not, List, [], ◌∷◌}
-use Rattle.bundle_tree_piece.specs.Item as h
-use Rattle.bundle_tree_piece.specs.Item.{Head}
+use Rattle.bundle_syntax.specs.Item as h
+use Rattle.bundle_syntax.specs.Item.{Head}
 use Rattle.bundle_rules.specs.Places.{Around}
 
 -- whether a top item with this head states nothing: imports, export lists and empty statements

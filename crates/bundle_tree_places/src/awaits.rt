@@ -1,12 +1,12 @@
 //! Where an `await` stands that only an async function or the top of a module may have.
 
 ghost use Rattle.std.specs.Prelude.{◌≡◌, ◌∷◌, [], IfOk, map};
-ghost use Rattle.bundle_tree_piece.specs.Item.{head_of, item_of};
+ghost use Rattle.bundle_syntax.specs.Item.{head_of, item_of};
 ghost use Rattle.bundle_rules.specs.Awaits as Awaits;
 ghost use Rattle.bundle_tree_places.specs.Nested as nested;
 ghost use Rattle.bundle_tree_places.specs.Nested.{awaits_in};
 
-use bundle_tree_piece::{Node, Piece};
+use bundle_syntax::{Node, Piece};
 use std::alloc::{AllocError, Global};
 
 /// What stands directly in a node: it stands outside functions, or in one, or in one unless it is the key.

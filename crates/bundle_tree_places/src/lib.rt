@@ -15,4 +15,4 @@ pub mod seconds;
 pub use awaits::awaits_outside;
 pub use change::Change;
 pub use identifier::is_ascii_identifier;
-pub use mark::{Mark, Name, Node, Occurrence, marks_of, occurrences_of};
+pub use mark::{MarkRef, Name, Node, OccurrenceRef, marks_of, occurrences_of};

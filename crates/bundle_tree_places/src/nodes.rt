@@ -3,7 +3,7 @@
 
 ghost use Rattle.std.specs.Prelude.{◌≡◌, map};
 ghost use Rattle.std.specs.List.{list_any};
-ghost use Rattle.bundle_tree_piece.specs.Item.{head_of, item_of};
+ghost use Rattle.bundle_syntax.specs.Item.{head_of, item_of};
 ghost use Rattle.bundle_tree_places.specs.Heads.{begins_here};
 ghost use Rattle.bundle_rules.specs.Entries as entries;
 ghost use Rattle.bundle_rules.specs.Entries.{is_import_meta};
@@ -12,8 +12,7 @@ ghost use Rattle.bundle_rules.specs.Reads as reads;
 ghost use Rattle.bundle_rules.specs.Nodes.{has_head};
 ghost use Rattle.bundle_tree_places.specs.Stated as stated;
 
-use bundle_tree_leaf::{MetaPropKind, UnaryOp};
-use bundle_tree_piece::{Node, Piece};
+use bundle_syntax::{MetaPropKind, Node, Piece, UnaryOp};
 
 /// Whether a node writes to what stands in this field of it (ECMA-262, 13.15, 13.4, 13.5.1 and 14.7.5).
 pub fn writes(node: Node, field: u8) -> bool

@@ -1,7 +1,7 @@
 //! The nodes that stand side by side in a list, and the texts in their fields.
 
 ghost use Rattle.std.specs.Prelude.{◌≡◌, zero, true, ◌+◌, ◌<◌, ◌≤◌, ◌-◌, ◌^◌, length, map, IfOk, OnOk, IfSome, ◌++◌, drop, filter, option_map};
-ghost use Rattle.bundle_tree_piece.specs.Item.{head_of, item_of};
+ghost use Rattle.bundle_syntax.specs.Item.{head_of, item_of};
 ghost use Rattle.bundle_rules.specs.Nodes as nodes;
 ghost use Rattle.bundle_rules.specs.Nodes.{first_or_nothing, field_of};
 ghost use Rattle.bundle_rules.specs.Entries as entries;
@@ -9,12 +9,12 @@ ghost use Rattle.bundle_tree_places.specs.Lengths as lengths;
 ghost use Rattle.bundle_tree_places.specs.Lengths.{length_of_first, head_at, kept_in};
 ghost use Rattle.bundle_tree_places.specs.Parted.{part_items};
 
-use bundle_tree_piece::{Node, Piece};
+use bundle_syntax::{Node, Piece};
 use std::alloc::{AllocError, Global};
 
 /// A node in a list, and the place at which it begins.
 #[derive(Clone, Copy)]
-pub struct Part<'p, 'a> {
+pub struct NodeAt<'p, 'a> {
     pub start: usize,
     pub pieces: &'p [Piece<'a>],
 }
@@ -25,7 +25,7 @@ pub fn side_by_side<'p, 'a>(
     alloc: Global,
     start: usize,
     pieces: &'p [Piece<'a>],
-) -> Result<Vec<Part<'p, 'a>>, AllocError>
+) -> Result<Vec<NodeAt<'p, 'a>>, AllocError>
     ensures { IfOk result (λ found.
         map part_items found.items ≡ nodes.side_by_side zero (map item_of pieces.now)) }
 {
@@ -34,7 +34,7 @@ pub fn side_by_side<'p, 'a>(
     'each: while begins_node(behind(pieces, at)) {
         let rest = behind(pieces, at);
         let length = part_length(rest);
-        found.push(Part {
+        found.push(NodeAt {
             start: start.saturating_add(at),
             pieces: &rest[..length],
         })?;
@@ -44,7 +44,7 @@ pub fn side_by_side<'p, 'a>(
 }
 
 /// The nodes that lie directly in a node.
-pub fn parts<'p, 'a>(alloc: Global, node: Part<'p, 'a>) -> Result<Vec<Part<'p, 'a>>, AllocError>
+pub fn parts<'p, 'a>(alloc: Global, node: NodeAt<'p, 'a>) -> Result<Vec<NodeAt<'p, 'a>>, AllocError>
     ensures { IfOk result (λ found.
         map part_items found.items ≡ nodes.parts (part_items node.entry)) }
 {
@@ -59,19 +59,19 @@ pub fn parts<'p, 'a>(alloc: Global, node: Part<'p, 'a>) -> Result<Vec<Part<'p, '
 pub fn top_items<'p, 'a>(
     alloc: Global,
     pieces: &'p [Piece<'a>],
-) -> Result<Vec<Part<'p, 'a>>, AllocError>
+) -> Result<Vec<NodeAt<'p, 'a>>, AllocError>
     ensures { IfOk result (λ found.
         map part_items found.items ≡ nodes.parts (map item_of pieces.now)) }
 {
-    parts(alloc, Part { start: 0, pieces })
+    parts(alloc, NodeAt { start: 0, pieces })
 }
 
 /// The nodes that lie directly in a node, in this field.
 pub fn in_field<'p, 'a>(
     alloc: Global,
-    node: Part<'p, 'a>,
+    node: NodeAt<'p, 'a>,
     field: u8,
-) -> Result<Vec<Part<'p, 'a>>, AllocError>
+) -> Result<Vec<NodeAt<'p, 'a>>, AllocError>
     ensures { IfOk result (λ found.
         map part_items found.items ≡ nodes.in_field field (part_items node.entry)) }
 {
@@ -82,7 +82,7 @@ pub fn in_field<'p, 'a>(
     'each: while begins_node(behind(inside, at)) {
         let rest = behind(inside, at);
         let length = part_length(rest);
-        let part = Part {
+        let part = NodeAt {
             start: start.saturating_add(at),
             pieces: &rest[..length],
         };
@@ -94,8 +94,8 @@ pub fn in_field<'p, 'a>(
 
 // Adds a node that lies in the field.
 fn add_in_field<'p, 'a>(
-    found: &mut Vec<Part<'p, 'a>>,
-    part: Part<'p, 'a>,
+    found: &mut Vec<NodeAt<'p, 'a>>,
+    part: NodeAt<'p, 'a>,
     field: u8,
 ) -> Result<(), AllocError>
     ensures { OnOk result
@@ -116,18 +116,18 @@ pub fn child<'p, 'a>(node: &'p [Piece<'a>], field: u8) -> &'p [Piece<'a>]
 }
 
 /// The first of these nodes, with its place; the empty list where there is none.
-pub fn child_of<'p, 'a>(node: Part<'p, 'a>, field: u8) -> Part<'p, 'a>
+pub fn child_of<'p, 'a>(node: NodeAt<'p, 'a>, field: u8) -> NodeAt<'p, 'a>
     ensures { part_items result ≡ nodes.child field (part_items node.entry) }
 {
     let found = first_in(behind_first(node.pieces), field);
-    Part {
+    NodeAt {
         start: node.start.saturating_add(1).saturating_add(found.start),
         pieces: found.pieces,
     }
 }
 
 // The first node of a list in this field, with its place; the empty list where there is none.
-fn first_in<'p, 'a>(pieces: &'p [Piece<'a>], field: u8) -> Part<'p, 'a>
+fn first_in<'p, 'a>(pieces: &'p [Piece<'a>], field: u8) -> NodeAt<'p, 'a>
     ensures { part_items result
         ≡ first_or_nothing
         (filter (nodes.begins_in field) (nodes.side_by_side zero (map item_of pieces.now))) }
@@ -137,14 +137,14 @@ fn first_in<'p, 'a>(pieces: &'p [Piece<'a>], field: u8) -> Part<'p, 'a>
         let rest = behind(pieces, at);
         let length = part_length(rest);
         if begins_in(rest, field) {
-            return Part {
+            return NodeAt {
                 start: at,
                 pieces: &rest[..length],
             };
         }
         at += length;
     }
-    Part {
+    NodeAt {
         start: 0,
         pieces: &pieces[..0],
     }

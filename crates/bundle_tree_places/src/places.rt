@@ -1,7 +1,7 @@
 //! What is told of the places of a list by the nodes around them.
 
 ghost use Rattle.std.specs.Prelude.{◌≡◌, ◌&&◌, ◌||◌, ◌∷◌, ℕ, List, Some, None, IfOk, OnOk, map, reverse, slice_get, if◌then◌else◌};
-ghost use Rattle.bundle_tree_piece.specs.Item.{head_of, item_of};
+ghost use Rattle.bundle_syntax.specs.Item.{head_of, item_of};
 ghost use Rattle.bundle_rules.specs.Places.{Around, in_field, outer_path, path_past, path_to};
 ghost use Rattle.bundle_rules.specs.Nodes.{field_of, node_at};
 ghost use Rattle.bundle_rules.specs.Reads as reads;
@@ -13,13 +13,13 @@ ghost use Rattle.bundle_tree_places.specs.Stated.{is_in_statement};
 
 use crate::nodes::{is_optional_chain, passes_writes, states_nothing, writes};
 use crate::seconds::{property_at, seconds_of};
-use bundle_tree_piece::{Node, Piece};
+use bundle_syntax::{Node, Piece};
 use std::alloc::{AllocError, Global};
 
 /// What is told of a place: the word of a read that begins there and may be static, and whether what stands there
 /// lies in a top item that states something.
 #[derive(Clone, Copy)]
-pub struct Told<'a> {
+pub struct ReadAt<'a> {
     pub word: Option<&'a str>,
     pub is_stated: bool,
 }
@@ -44,7 +44,7 @@ pub struct Frame<'a> {
 }
 
 /// What is told of each place of a list.
-pub fn told_places<'a>(alloc: Global, pieces: &[Piece<'a>]) -> Result<Vec<Told<'a>>, AllocError>
+pub fn told_places<'a>(alloc: Global, pieces: &[Piece<'a>]) -> Result<Vec<ReadAt<'a>>, AllocError>
     ensures { IfOk result (λ told. AreTold (map item_of pieces.now) told.items) }
 {
     let seconds = seconds_of(alloc, pieces)?;
@@ -64,7 +64,7 @@ fn tell<'a>(
     frames: &[Frame<'a>],
     place: usize,
     piece: Piece<'a>,
-) -> Told<'a>
+) -> ReadAt<'a>
     ensures word { (path : List Around) →
         AreSeconds (map item_of pieces.now) seconds.now →
         AreOpen (reverse frames.now) path →
@@ -79,7 +79,7 @@ fn tell<'a>(
 {
     match field_in(piece) {
         Some(field) => told_in(pieces, seconds, frames, place, field),
-        None => Told {
+        None => ReadAt {
             word: None,
             is_stated: false,
         },
@@ -105,7 +105,7 @@ fn told_in<'a>(
     frames: &[Frame<'a>],
     place: usize,
     field: u8,
-) -> Told<'a>
+) -> ReadAt<'a>
     ensures word { (path : List Around) →
         AreSeconds (map item_of pieces.now) seconds.now →
         AreOpen (reverse frames.now) path →
@@ -117,7 +117,7 @@ fn told_in<'a>(
 {
     let spot = spot_at(frames, field);
     let property = property_at(pieces, seconds, place);
-    Told {
+    ReadAt {
         word: word_read(spot, property),
         is_stated: spot.is_stated,
     }

@@ -2,7 +2,7 @@
 
 ghost use Rattle.std.specs.Prelude.{◌≡◌, IfOk, map};
 ghost use Rattle.std.specs.List.{list_any};
-ghost use Rattle.bundle_tree_piece.specs.Item.{head_of, item_of};
+ghost use Rattle.bundle_syntax.specs.Item.{head_of, item_of};
 ghost use Rattle.bundle_rules.specs.Awaits as Awaits;
 ghost use Rattle.bundle_rules.specs.Bundle.{is_with};
 ghost use Rattle.bundle_rules.specs.Entries as entries;
@@ -12,8 +12,7 @@ ghost use Rattle.bundle_tree_places.specs.Rarities as rarities;
 
 use crate::awaits::awaits_outside;
 use crate::nodes::{has_import_meta, has_with};
-use bundle_tree_leaf::MetaPropKind;
-use bundle_tree_piece::{Node, Piece};
+use bundle_syntax::{MetaPropKind, Node, Piece};
 use std::alloc::{AllocError, Global};
 
 /// Of what few modules have, what stands in a list.

@@ -1,13 +1,13 @@
 //! What stands in the second fields of nodes, and the words of members.
 
 ghost use Rattle.std.specs.Prelude.{◌≡◌, ℕ, zero, suc, ◌+◌, [], ◌∷◌, List, Some, None, if◌then◌else◌, IfOk, OnOk, map, reverse, slice_index_or};
-ghost use Rattle.bundle_tree_piece.specs.Item.{Item, item_of};
+ghost use Rattle.bundle_syntax.specs.Item.{Item, item_of};
 ghost use Rattle.bundle_rules.specs.Nodes.{node_at};
 ghost use Rattle.bundle_rules.specs.Reads.{plain_word, property_of};
 ghost use Rattle.bundle_tree_places.specs.Seconds as Seconds;
 ghost use Rattle.bundle_tree_places.specs.Seconds.{AreSeconds, AreTops, is_member_item, noted, second_from, text_of};
 
-use bundle_tree_piece::{Node, Piece};
+use bundle_syntax::{Node, Piece};
 use std::alloc::{AllocError, Global};
 
 /// For each place where what stands in the second field of the node that begins there begins, if something does.

@@ -1,17 +1,17 @@
 -- Words and literals stay.
 use Rattle.std.proofs.Common.{◌≡◌, ℕ, Result, Ok, Err, IfOk, map, List, [], ◌∷◌, Option, Some, None, option_map, sym, subst, refl, ap, ◌∙◌, string_bytes, true}
-use Rattle.bundle_tree_leaf.specs.declared.ident.Ident as v_ident
-use Rattle.bundle_tree_leaf.specs.declared.ident.IdentName as v_ident_name
-use Rattle.bundle_tree_leaf.specs.declared.ident.PrivateName as v_private_name
-use Rattle.bundle_tree_leaf.specs.declared.lit.Str as v_str
-use Rattle.bundle_tree_leaf.specs.declared.lit.Number as v_number
-use Rattle.bundle_tree_leaf.specs.declared.lit.BigInt as v_big_int
-use Rattle.bundle_tree_leaf.specs.declared.lit.Regex as v_regex
-use Rattle.bundle_tree_leaf.specs.declared.lit.TplElement as v_tpl_element
-use Rattle.bundle_tree_leaf.specs.declared.lit.Lit.TheVariants as i_lit
-use Rattle.bundle_tree_piece.specs.declared.piece.Role.{Role}
-use Rattle.bundle_tree_piece.specs.Item as h
-use Rattle.bundle_tree_piece.specs.Item.{Item, Head}
+use Rattle.bundle_syntax.specs.declared.ident.Ident as v_ident
+use Rattle.bundle_syntax.specs.declared.ident.IdentName as v_ident_name
+use Rattle.bundle_syntax.specs.declared.ident.PrivateName as v_private_name
+use Rattle.bundle_syntax.specs.declared.lit.Str as v_str
+use Rattle.bundle_syntax.specs.declared.lit.Number as v_number
+use Rattle.bundle_syntax.specs.declared.lit.BigInt as v_big_int
+use Rattle.bundle_syntax.specs.declared.lit.Regex as v_regex
+use Rattle.bundle_syntax.specs.declared.lit.TplElement as v_tpl_element
+use Rattle.bundle_syntax.specs.declared.lit.Lit.TheVariants as i_lit
+use Rattle.bundle_syntax.specs.declared.piece.Role.{Role}
+use Rattle.bundle_syntax.specs.Item as h
+use Rattle.bundle_syntax.specs.Item.{Item, Head}
 use Rattle.bundle_tree_listed.specs.Tree as k
 use Rattle.bundle_tree_listed.specs.Tree.{node}
 use Rattle.bundle_rules.specs.Idents.{Ident as Identifier}

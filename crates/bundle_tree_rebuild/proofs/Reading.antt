@@ -3,10 +3,10 @@ use Rattle.std.proofs.Common.{◌≡◌, ℕ, zero, suc, ◌<◌, ◌≤◌, ◌
 use Rattle.std.specs.List.{flat_map}
 use Rattle.std.proofs.lemmas.Bool.{false≢true}
 use Rattle.std.proofs.Math.Dec.{eqb-suc-zero}
-use Rattle.bundle_tree_leaf.specs.declared.ident.Ident as v_ident
-use Rattle.bundle_tree_leaf.specs.declared.ident.IdentName as v_ident_name
-use Rattle.bundle_tree_leaf.specs.declared.ident.PrivateName as v_private_name
-use Rattle.bundle_tree_leaf.specs.declared.lit.Lit.TheVariants as i_lit
+use Rattle.bundle_syntax.specs.declared.ident.Ident as v_ident
+use Rattle.bundle_syntax.specs.declared.ident.IdentName as v_ident_name
+use Rattle.bundle_syntax.specs.declared.ident.PrivateName as v_private_name
+use Rattle.bundle_syntax.specs.declared.lit.Lit.TheVariants as i_lit
 use Rattle.bundle_tree_ast.specs.declared.class.ClassMember.TheBlock as block
 use Rattle.bundle_tree_ast.specs.declared.expr.Expr as v_expr
 use Rattle.bundle_tree_ast.specs.declared.expr.Callee.TheVariants as v_callee
@@ -14,9 +14,9 @@ use Rattle.bundle_tree_ast.specs.declared.expr.ExprOrSpread as v_expr_or_spread
 use Rattle.bundle_tree_ast.specs.declared.expr.MemberExpr as v_member_expr
 use Rattle.bundle_tree_ast.specs.declared.prop.ComputedPropName as v_computed
 use Rattle.bundle_tree_ast.specs.declared.prop.MemberProp.TheVariants as v_member_prop
-use Rattle.bundle_tree_piece.specs.declared.piece.Role.TheVariants as r
-use Rattle.bundle_tree_piece.specs.Item as h
-use Rattle.bundle_tree_piece.specs.Item.{Item, Head}
+use Rattle.bundle_syntax.specs.declared.piece.Role.TheVariants as r
+use Rattle.bundle_syntax.specs.Item as h
+use Rattle.bundle_syntax.specs.Item.{Item, Head}
 use Rattle.bundle_tree_listed.proofs.Rows as row
 use Rattle.bundle_tree_listed.specs.Tree as k
 use Rattle.bundle_tree_listed.specs.Tree.{stmt_items}

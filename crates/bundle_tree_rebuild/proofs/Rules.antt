@@ -2,12 +2,12 @@
 use Rattle.std.proofs.Common.{◌≡◌, ◌∙◌, ℕ, refl, sym, ap, subst, List, [], ◌++◌, append-nil, Option, Some, None, is_some, is_none, Box, Vec, Global}
 use Rattle.std.specs.List.{flat_map}
 use Rattle.bundle_tree_ast.specs.declared.class.ClassMember.TheBlock as block
-use Rattle.bundle_tree_leaf.specs.declared.ident.BindingIdent as v_binding_ident
-use Rattle.bundle_tree_leaf.specs.declared.ident.Ident as v_ident
-use Rattle.bundle_tree_piece.specs.Item as h
-use Rattle.bundle_tree_piece.specs.Item.{Item}
-use Rattle.bundle_tree_piece.specs.declared.piece.Role.{Role}
-use Rattle.bundle_tree_piece.specs.declared.piece.Role.TheVariants as r
+use Rattle.bundle_syntax.specs.declared.ident.BindingIdent as v_binding_ident
+use Rattle.bundle_syntax.specs.declared.ident.Ident as v_ident
+use Rattle.bundle_syntax.specs.Item as h
+use Rattle.bundle_syntax.specs.Item.{Item}
+use Rattle.bundle_syntax.specs.declared.piece.Role.{Role}
+use Rattle.bundle_syntax.specs.declared.piece.Role.TheVariants as r
 use Rattle.bundle_tree_listed.proofs.Rows as row
 use Rattle.bundle_tree_listed.specs.Tree as k
 use Rattle.bundle_tree_listed.specs.Tree.{stmt_items}
@@ -47,7 +47,7 @@ use Rattle.bundle_tree_ast.specs.declared.stmt.SwitchCase as v_switch_case
 use Rattle.bundle_tree_ast.specs.declared.expr.Tpl as v_tpl
 use Rattle.bundle_tree_ast.specs.declared.decl.VarDecl as v_var_decl
 use Rattle.bundle_tree_ast.specs.declared.decl.VarDeclarator as v_var_declarator
-use Rattle.bundle_tree_leaf.specs.declared.kind.ExportMetadata.{ExportMetadata}
+use Rattle.bundle_syntax.specs.declared.kind.ExportMetadata.{ExportMetadata}
 use Rattle.bundle_tree_places.specs.Edits.{Anywhere, InObject}
 use Rattle.bundle_tree_rebuild.specs.Becomes as e
 use Rattle.bundle_tree_rebuild.specs.Becomes.{Becomes, Nothing, Joined, Hole, Inside, Declaration, OfReads, OfCall, OfMeta, name_for_call, name_for_member, name_for_meta, kept_notes, reference}

@@ -2,14 +2,14 @@
 -- makes it anew. With plain changes it is what `Edits` says. What stands around a name and what stands in its place
 -- is taken from there.
 use Rattle.std.specs.Prelude.{◌≡◌, ℕ, zero, suc, ◌==◌, Bool, true, false, not, is_none, List, [], ◌∷◌, ◌++◌, Option, Some, None, if◌then◌else◌}
-use Rattle.bundle_tree_leaf.specs.declared.kind.ExportMetadata.{ExportMetadata}
-use Rattle.bundle_tree_leaf.specs.declared.kind.MetaPropKind.{MetaPropKind}
-use Rattle.bundle_tree_leaf.specs.declared.kind.MetaPropKind.TheVariants as p
-use Rattle.bundle_tree_leaf.specs.declared.kind.VarDeclKind.{VarDeclKind}
-use Rattle.bundle_tree_piece.specs.declared.piece.Role.{Role}
-use Rattle.bundle_tree_piece.specs.declared.piece.Role.TheVariants as r
-use Rattle.bundle_tree_piece.specs.Item as h
-use Rattle.bundle_tree_piece.specs.Item.{Item, Head}
+use Rattle.bundle_syntax.specs.declared.kind.ExportMetadata.{ExportMetadata}
+use Rattle.bundle_syntax.specs.declared.kind.MetaPropKind.{MetaPropKind}
+use Rattle.bundle_syntax.specs.declared.kind.MetaPropKind.TheVariants as p
+use Rattle.bundle_syntax.specs.declared.kind.VarDeclKind.{VarDeclKind}
+use Rattle.bundle_syntax.specs.declared.piece.Role.{Role}
+use Rattle.bundle_syntax.specs.declared.piece.Role.TheVariants as r
+use Rattle.bundle_syntax.specs.Item as h
+use Rattle.bundle_syntax.specs.Item.{Item, Head}
 use Rattle.bundle_rules.specs.Nodes.{Text}
 use Rattle.bundle_rules.specs.Idents.{Ident}
 use Rattle.bundle_tree_places.specs.Edits.{Around, Anywhere, node, is_occurrence, around_in, is_plain, in_its_place, binding, shorthand_in_its_place}

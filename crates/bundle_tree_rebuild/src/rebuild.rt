@@ -2,7 +2,7 @@
 
 ghost use Rattle.std.specs.Prelude.{◌≡◌, ℕ, [], IfOk, Some, None, map, option_map, string_bytes, if◌then◌else◌};
 ghost use Rattle.std.specs.List.{flat_map};
-ghost use Rattle.bundle_tree_piece.specs.declared.piece.Role.{Role};
+ghost use Rattle.bundle_syntax.specs.declared.piece.Role.{Role};
 ghost use Rattle.bundle_tree_listed.specs.Tree.{ident_items, module_item_items};
 ghost use Rattle.bundle_rules.specs.Rebuilds as rebuilds;
 ghost use Rattle.bundle_rules.specs.Rebuilds.{rebuilt};
@@ -26,8 +26,8 @@ pub mod stmts;
 use crate::rewrite::{Rewriting, Whole};
 use crate::whole::{are_reads, is_literal_call};
 use crate::work::{Step, Steps};
+use bundle_syntax::kind::{ExportMetadata, MetaPropKind};
 use bundle_tree_ast::{Callee, ExprOrSpread, Ident, MemberExpr, ModuleItem};
-use bundle_tree_leaf::kind::{ExportMetadata, MetaPropKind};
 use bundle_tree_names::SyntaxContext;
 use bundle_tree_places::{Change, Name};
 use std::alloc::{AllocError, Global};

@@ -2,7 +2,7 @@
 
 ghost use Rattle.std.specs.Prelude.{◌≡◌, ℕ, List, ◌∷◌, ◌++◌, ◌&&◌, Some, None, false, if◌then◌else◌};
 ghost use Rattle.std.specs.List.{flat_map};
-ghost use Rattle.bundle_tree_piece.specs.Item.{Close, ExprOrSpread as Argument, Item};
+ghost use Rattle.bundle_syntax.specs.Item.{Close, ExprOrSpread as Argument, Item};
 ghost use Rattle.bundle_tree_listed.specs.Tree.{callee_items, expr_items, expr_or_spread_items, lit_items, member_prop_items, node};
 ghost use Rattle.bundle_tree_rebuild.specs.Becomes as becomes;
 ghost use Rattle.bundle_tree_rebuild.specs.Becomes.{behind_reads, behind_word};

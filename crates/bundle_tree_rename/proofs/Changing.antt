@@ -4,10 +4,10 @@ use Rattle.bundle_rules.specs.Idents.{Ident, ident_of, idents}
 use Rattle.bundle_rules.specs.Nodes.{Text}
 use Rattle.bundle_rules.specs.Rebuilds.{Change}
 use Rattle.bundle_rules.specs.Places.{Spot, start, past, occurrences_from}
-use Rattle.bundle_tree_piece.specs.declared.piece.Role.{Role}
-use Rattle.bundle_tree_piece.specs.declared.piece.Role.TheVariants as r
-use Rattle.bundle_tree_piece.specs.Item as h
-use Rattle.bundle_tree_piece.specs.Item.{Item}
+use Rattle.bundle_syntax.specs.declared.piece.Role.{Role}
+use Rattle.bundle_syntax.specs.declared.piece.Role.TheVariants as r
+use Rattle.bundle_syntax.specs.Item as h
+use Rattle.bundle_syntax.specs.Item.{Item}
 use Rattle.bundle_tree_places.specs.Edits as e
 use Rattle.bundle_tree_places.specs.Edits.{Around, Anywhere, Edits, Edited, node, is_occurrence, binding, in_its_place, shorthand_in_its_place}
 use Rattle.bundle_tree_rename.specs.Naming.{Naming, next, changes_at}

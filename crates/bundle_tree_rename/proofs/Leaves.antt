@@ -1,11 +1,11 @@
 -- A node in which no name stands stays.
 use Rattle.std.proofs.Common.{ℕ, List, [], ◌∷◌, Option, Some, None, refl}
 use Rattle.std.specs.List.{flat_map}
-use Rattle.bundle_tree_leaf.specs.declared.ident.IdentName as v_ident_name
-use Rattle.bundle_tree_leaf.specs.declared.lit.Lit.{Lit}
-use Rattle.bundle_tree_leaf.specs.declared.lit.Lit.TheVariants as i_lit
-use Rattle.bundle_tree_leaf.specs.declared.lit.Str as v_str
-use Rattle.bundle_tree_leaf.specs.declared.lit.TplElement as v_tpl_element
+use Rattle.bundle_syntax.specs.declared.ident.IdentName as v_ident_name
+use Rattle.bundle_syntax.specs.declared.lit.Lit.{Lit}
+use Rattle.bundle_syntax.specs.declared.lit.Lit.TheVariants as i_lit
+use Rattle.bundle_syntax.specs.declared.lit.Str as v_str
+use Rattle.bundle_syntax.specs.declared.lit.TplElement as v_tpl_element
 use Rattle.bundle_tree_listed.specs.Tree as k
 use Rattle.bundle_tree_places.specs.Edits.{Around, Anywhere}
 use Rattle.bundle_tree_rename.specs.Naming.{Naming}

@@ -4,9 +4,9 @@ use Rattle.std.specs.Prelude.{slice_set}
 use Rattle.std.specs.List.{flat_map}
 use Rattle.std.proofs.lemmas.Grind.{take_at_read, flat_map-append}
 use Rattle.std.proofs.lemmas.List.{take_all, take_more_set, length-set, get_or-set_other}
-use Rattle.bundle_tree_leaf.specs.declared.ident.Ident as v_ident
-use Rattle.bundle_tree_piece.specs.declared.piece.Role.{Role}
-use Rattle.bundle_tree_piece.specs.Item.{Item}
+use Rattle.bundle_syntax.specs.declared.ident.Ident as v_ident
+use Rattle.bundle_syntax.specs.declared.piece.Role.{Role}
+use Rattle.bundle_syntax.specs.Item.{Item}
 use Rattle.bundle_tree_listed.specs.Tree.{ident_items}
 use Rattle.bundle_tree_places.specs.Edits.{Around, Anywhere, is_occurrence}
 use Rattle.bundle_tree_rename.specs.Naming.{Naming}

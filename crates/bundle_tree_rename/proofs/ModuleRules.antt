@@ -1,19 +1,19 @@
 -- What a module imports and exports is renamed in its parts.
 use Rattle.std.proofs.Common.{◌≡◌, ℕ, Bool, true, false, List, [], ◌∷◌, ◌++◌, Option, Some, None, sym, subst, refl, ap, ◌∙◌, string_bytes, drop, if◌then◌else◌}
-use Rattle.bundle_tree_leaf.specs.declared.ident.Ident as v_ident
-use Rattle.bundle_tree_leaf.specs.declared.lit.Str as v_str
-use Rattle.bundle_tree_leaf.specs.declared.specifier.ModuleExportName.{ModuleExportName}
-use Rattle.bundle_tree_leaf.specs.declared.specifier.ModuleExportName.TheVariants as i_name
-use Rattle.bundle_tree_leaf.specs.declared.specifier.ImportSpecifier.TheVariants as i_import
-use Rattle.bundle_tree_leaf.specs.declared.specifier.ExportSpecifier.TheVariants as i_export
+use Rattle.bundle_syntax.specs.declared.ident.Ident as v_ident
+use Rattle.bundle_syntax.specs.declared.lit.Str as v_str
+use Rattle.bundle_syntax.specs.declared.specifier.ModuleExportName.{ModuleExportName}
+use Rattle.bundle_syntax.specs.declared.specifier.ModuleExportName.TheVariants as i_name
+use Rattle.bundle_syntax.specs.declared.specifier.ImportSpecifier.TheVariants as i_import
+use Rattle.bundle_syntax.specs.declared.specifier.ExportSpecifier.TheVariants as i_export
 use Rattle.bundle_tree_ast.specs.declared.module.Module as v_module
 use Rattle.bundle_tree_ast.specs.declared.module.ModuleItem.TheVariants as i_item
 use Rattle.bundle_tree_ast.specs.declared.module.ModuleDecl.TheVariants as i_decl
 use Rattle.bundle_tree_ast.specs.declared.module.DefaultDecl.TheVariants as i_default
-use Rattle.bundle_tree_piece.specs.declared.piece.Role.{Role}
-use Rattle.bundle_tree_piece.specs.declared.piece.Role.TheVariants as r
-use Rattle.bundle_tree_piece.specs.Item as h
-use Rattle.bundle_tree_piece.specs.Item.{Item}
+use Rattle.bundle_syntax.specs.declared.piece.Role.{Role}
+use Rattle.bundle_syntax.specs.declared.piece.Role.TheVariants as r
+use Rattle.bundle_syntax.specs.Item as h
+use Rattle.bundle_syntax.specs.Item.{Item}
 use Rattle.bundle_tree_listed.specs.Tree as k
 use Rattle.bundle_rules.specs.Rebuilds.{Change, spells_out}
 use Rattle.bundle_tree_places.specs.Edits.{Around, Anywhere, InSpecifier, is_occurrence, is_plain, renamed, in_its_place}

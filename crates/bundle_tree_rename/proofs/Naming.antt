@@ -1,8 +1,8 @@
 -- What becomes of an identifier.
 use Rattle.std.proofs.Common.{◌≡◌, List, [], ◌∷◌, Some, None, drop, refl, ap, ◌∙◌, string_bytes, unwrap_or, option_map, slice_get, Result, Ok, Err, IfOk}
-use Rattle.bundle_tree_leaf.specs.declared.ident.Ident as v_ident
-use Rattle.bundle_tree_piece.specs.declared.piece.Role.TheVariants as r
-use Rattle.bundle_tree_piece.specs.Item as h
+use Rattle.bundle_syntax.specs.declared.ident.Ident as v_ident
+use Rattle.bundle_syntax.specs.declared.piece.Role.TheVariants as r
+use Rattle.bundle_syntax.specs.Item as h
 use Rattle.bundle_tree_places.specs.Edits.{Anywhere, renamed}
 use Rattle.bundle_tree_rename.specs.declared.new_name.NewName as r_new_name
 use Rattle.bundle_tree_rename.specs.Naming.{Naming, naming_of, change_at, next}

@@ -1,10 +1,10 @@
 -- A node whose parts were renamed was renamed.
 use Rattle.std.proofs.Common.{◌≡◌, ◌∙◌, refl, sym, ap, subst, List, ◌++◌, Option, Some, None, is_some}
 use Rattle.bundle_tree_ast.specs.declared.class.ClassMember.TheBlock as block
-use Rattle.bundle_tree_leaf.specs.declared.ident.BindingIdent as v_binding_ident
-use Rattle.bundle_tree_piece.specs.Item as h
-use Rattle.bundle_tree_piece.specs.Item.{Item}
-use Rattle.bundle_tree_piece.specs.declared.piece.Role.TheVariants as r
+use Rattle.bundle_syntax.specs.declared.ident.BindingIdent as v_binding_ident
+use Rattle.bundle_syntax.specs.Item as h
+use Rattle.bundle_syntax.specs.Item.{Item}
+use Rattle.bundle_syntax.specs.declared.piece.Role.TheVariants as r
 use Rattle.bundle_tree_listed.specs.Tree as k
 use Rattle.bundle_tree_listed.specs.Tree.{stmt_items}
 use Rattle.bundle_tree_ast.specs.declared.pat.ArrayPat as v_array_pat

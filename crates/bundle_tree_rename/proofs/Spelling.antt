@@ -1,10 +1,10 @@
 -- What is short, spelled out or not.
 use Rattle.std.proofs.Common.{◌≡◌, ℕ, true, false, List, [], ◌∷◌, ◌++◌, Option, Some, None, sym, subst, refl, ap, ◌∙◌, string_bytes, drop, if◌then◌else◌, Box, Global, bytes_eq, codes, option_map}
-use Rattle.bundle_tree_leaf.specs.declared.ident.Ident as v_ident
-use Rattle.bundle_tree_leaf.specs.declared.ident.BindingIdent as v_binding_ident
-use Rattle.bundle_tree_leaf.specs.declared.ident.IdentName as v_ident_name
-use Rattle.bundle_tree_leaf.specs.declared.lit.Str as v_str
-use Rattle.bundle_tree_leaf.specs.declared.lit.Lit.TheVariants as i_lit
+use Rattle.bundle_syntax.specs.declared.ident.Ident as v_ident
+use Rattle.bundle_syntax.specs.declared.ident.BindingIdent as v_binding_ident
+use Rattle.bundle_syntax.specs.declared.ident.IdentName as v_ident_name
+use Rattle.bundle_syntax.specs.declared.lit.Str as v_str
+use Rattle.bundle_syntax.specs.declared.lit.Lit.TheVariants as i_lit
 use Rattle.bundle_tree_ast.specs.declared.prop.ComputedPropName as v_computed
 use Rattle.bundle_tree_ast.specs.declared.prop.PropName.TheVariants as i_prop_name
 use Rattle.bundle_tree_ast.specs.declared.expr.Expr as v_expr
@@ -12,10 +12,10 @@ use Rattle.bundle_tree_ast.specs.declared.pat.Pat as v_pat
 use Rattle.bundle_tree_ast.specs.declared.pat.ObjectPatProp as v_object_pat_prop
 use Rattle.bundle_tree_ast.specs.declared.prop.Prop as v_prop
 use Rattle.bundle_tree_ast.specs.declared.prop.PropName as v_prop_name
-use Rattle.bundle_tree_piece.specs.declared.piece.Role.{Role}
-use Rattle.bundle_tree_piece.specs.declared.piece.Role.TheVariants as r
-use Rattle.bundle_tree_piece.specs.Item as h
-use Rattle.bundle_tree_piece.specs.Item.{Item}
+use Rattle.bundle_syntax.specs.declared.piece.Role.{Role}
+use Rattle.bundle_syntax.specs.declared.piece.Role.TheVariants as r
+use Rattle.bundle_syntax.specs.Item as h
+use Rattle.bundle_syntax.specs.Item.{Item}
 use Rattle.bundle_tree_listed.specs.Tree as k
 use Rattle.bundle_tree_listed.specs.Tree.{node, stmt_items}
 use Rattle.bundle_rules.specs.Rebuilds.{Change, key_in_object, plain_key, spells_out}

@@ -3,18 +3,18 @@ use Rattle.std.specs.Prelude.{ℕ, Bool, true, false, List, [], ◌∷◌, ◌++
 use Rattle.std.specs.List.{flat_map}
 use Rattle.std.specs.declared.vec.Vec.{Vec}
 use Rattle.std.specs.declared.alloc.Global.{Global}
-use Rattle.bundle_tree_leaf.specs.declared.ident.Ident as v_ident
-use Rattle.bundle_tree_leaf.specs.declared.specifier.ModuleExportName as v_module_export_name
-use Rattle.bundle_tree_leaf.specs.declared.specifier.ImportSpecifier as v_import_specifier
-use Rattle.bundle_tree_leaf.specs.declared.specifier.ExportSpecifier as v_export_specifier
+use Rattle.bundle_syntax.specs.declared.ident.Ident as v_ident
+use Rattle.bundle_syntax.specs.declared.specifier.ModuleExportName as v_module_export_name
+use Rattle.bundle_syntax.specs.declared.specifier.ImportSpecifier as v_import_specifier
+use Rattle.bundle_syntax.specs.declared.specifier.ExportSpecifier as v_export_specifier
 use Rattle.bundle_tree_ast.specs.declared.module.ModuleItem as v_module_item
 use Rattle.bundle_tree_ast.specs.declared.expr.Expr as v_expr
 use Rattle.bundle_tree_ast.specs.declared.stmt.Stmt as v_stmt
 use Rattle.bundle_tree_ast.specs.declared.pat.Pat as v_pat
-use Rattle.bundle_tree_piece.specs.declared.piece.Role.{Role}
-use Rattle.bundle_tree_piece.specs.declared.piece.Role.TheVariants as r
-use Rattle.bundle_tree_piece.specs.Item as h
-use Rattle.bundle_tree_piece.specs.Item.{Item}
+use Rattle.bundle_syntax.specs.declared.piece.Role.{Role}
+use Rattle.bundle_syntax.specs.declared.piece.Role.TheVariants as r
+use Rattle.bundle_syntax.specs.Item as h
+use Rattle.bundle_syntax.specs.Item.{Item}
 use Rattle.bundle_tree_listed.specs.Tree.{node, option_items, ident_items, expr_items, stmt_items, pat_items, module_export_name_items, import_specifier_items, export_specifier_items, module_item_items}
 
 -- the lists of the elements, one after another

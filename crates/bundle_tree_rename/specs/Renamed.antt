@@ -1,8 +1,8 @@
 -- A part of a tree whose identifiers were changed where they stand, by its list.
 use Rattle.std.specs.Prelude.{◌≡◌, ℕ, true, List, [], ◌∷◌, drop, string_bytes}
-use Rattle.bundle_tree_leaf.specs.declared.ident.Ident as v_ident
-use Rattle.bundle_tree_piece.specs.declared.piece.Role.{Role}
-use Rattle.bundle_tree_piece.specs.Item.{Item}
+use Rattle.bundle_syntax.specs.declared.ident.Ident as v_ident
+use Rattle.bundle_syntax.specs.declared.piece.Role.{Role}
+use Rattle.bundle_syntax.specs.Item.{Item}
 use Rattle.bundle_tree_listed.specs.Tree.{ident_items}
 use Rattle.bundle_tree_places.specs.Edits.{Around, Anywhere, is_occurrence, renamed}
 use Rattle.bundle_tree_rename.specs.Naming.{Naming, next}

@@ -2,9 +2,9 @@
 -- nodes. What stands around a name and what stands in its place is taken from `Edits`.
 use Rattle.std.specs.Prelude.{◌≡◌, ℕ, true, false, List, [], ◌∷◌, ◌++◌, None, drop}
 use Rattle.bundle_rules.specs.Nodes.{Text}
-use Rattle.bundle_tree_piece.specs.declared.piece.Role.{Role}
-use Rattle.bundle_tree_piece.specs.Item as h
-use Rattle.bundle_tree_piece.specs.Item.{Item, Head}
+use Rattle.bundle_syntax.specs.declared.piece.Role.{Role}
+use Rattle.bundle_syntax.specs.Item as h
+use Rattle.bundle_syntax.specs.Item.{Item, Head}
 use Rattle.bundle_tree_places.specs.Edits.{Around, Anywhere, node, is_occurrence, around_in, is_plain, in_its_place, binding, shorthand_in_its_place}
 use Rattle.bundle_tree_rename.specs.Naming.{Naming, next}
 

@@ -1,16 +1,16 @@
 -- What is made without changes is a copy.
 use Rattle.std.proofs.Common.{◌≡◌, ℕ, List, [], ◌∷◌, ◌++◌, Option, sym, subst, refl, ap, ◌∙◌, string_bytes}
 use Rattle.std.proofs.lemmas.List.{append_cancel_left, append_cancel_right}
-use Rattle.bundle_tree_leaf.specs.declared.ident.Ident as v_ident
-use Rattle.bundle_tree_leaf.specs.declared.specifier.ModuleExportName.{ModuleExportName}
-use Rattle.bundle_tree_leaf.specs.declared.specifier.ExportSpecifier.{ExportSpecifier}
-use Rattle.bundle_tree_leaf.specs.declared.specifier.ExportSpecifier.TheVariants as i_export
+use Rattle.bundle_syntax.specs.declared.ident.Ident as v_ident
+use Rattle.bundle_syntax.specs.declared.specifier.ModuleExportName.{ModuleExportName}
+use Rattle.bundle_syntax.specs.declared.specifier.ExportSpecifier.{ExportSpecifier}
+use Rattle.bundle_syntax.specs.declared.specifier.ExportSpecifier.TheVariants as i_export
 use Rattle.bundle_tree_ast.specs.declared.expr.Expr as v_expr
 use Rattle.bundle_tree_ast.specs.declared.expr.MemberExpr as v_member_expr
-use Rattle.bundle_tree_piece.specs.declared.piece.Role.{Role}
-use Rattle.bundle_tree_piece.specs.declared.piece.Role.TheVariants as r
-use Rattle.bundle_tree_piece.specs.Item as h
-use Rattle.bundle_tree_piece.specs.Item.{Item}
+use Rattle.bundle_syntax.specs.declared.piece.Role.{Role}
+use Rattle.bundle_syntax.specs.declared.piece.Role.TheVariants as r
+use Rattle.bundle_syntax.specs.Item as h
+use Rattle.bundle_syntax.specs.Item.{Item}
 use Rattle.bundle_tree_listed.specs.Tree.{node, ident_items, member_expr_items, binding_ident_items, module_export_name_items, export_specifier_items}
 use Rattle.bundle_tree_places.specs.Edits.{Anywhere, InObject, is_occurrence, renamed}
 use Rattle.bundle_tree_places.proofs.Copies.{copied}

@@ -3,12 +3,12 @@ use Rattle.std.proofs.Common.{◌≡◌, ◌≢◌, ℕ, ◌+◌, ◌<◌, ◌�
 use Rattle.std.specs.List.{flat_map}
 use Rattle.std.proofs.lemmas.Grind.{take_at_read, flat_map-append}
 use Rattle.std.proofs.lemmas.List.{take_all}
-use Rattle.bundle_tree_leaf.specs.declared.ident.Ident as v_ident
-use Rattle.bundle_tree_leaf.specs.declared.kind.VarDeclKind.TheVariants as v_kind
+use Rattle.bundle_syntax.specs.declared.ident.Ident as v_ident
+use Rattle.bundle_syntax.specs.declared.kind.VarDeclKind.TheVariants as v_kind
 use Rattle.bundle_tree_ast.specs.declared.class.Class as v_class
 use Rattle.bundle_tree_ast.specs.declared.class.Function as v_function
 use Rattle.bundle_tree_ast.specs.declared.decl.Decl as v_decl
-use Rattle.bundle_tree_leaf.specs.declared.kind.ExportMetadata.{ExportMetadata}
+use Rattle.bundle_syntax.specs.declared.kind.ExportMetadata.{ExportMetadata}
 use Rattle.bundle_tree_ast.specs.declared.decl.VarDeclarator as v_var_declarator
 use Rattle.bundle_tree_ast.specs.declared.pat.Pat as v_pat
 use Rattle.bundle_tree_ast.specs.declared.expr.Expr as v_expr
@@ -20,9 +20,9 @@ use Rattle.bundle_tree_ast.specs.declared.prop.KeyValueProp as v_key_value_prop
 use Rattle.bundle_tree_ast.specs.declared.prop.Prop as v_prop
 use Rattle.bundle_tree_ast.specs.declared.prop.PropOrSpread as v_prop_or_spread
 use Rattle.bundle_tree_ast.specs.declared.stmt.Stmt as v_stmt
-use Rattle.bundle_tree_piece.specs.declared.piece.Role.TheVariants as r
-use Rattle.bundle_tree_piece.specs.Item as h
-use Rattle.bundle_tree_piece.specs.Item.{Item}
+use Rattle.bundle_syntax.specs.declared.piece.Role.TheVariants as r
+use Rattle.bundle_syntax.specs.Item as h
+use Rattle.bundle_syntax.specs.Item.{Item}
 use Rattle.bundle_tree_listed.specs.Tree as k
 use Rattle.bundle_tree_listed.specs.Tree.{node, stmt_items}
 use Rattle.bundle_tree_listed.proofs.Rows as row

@@ -1,7 +1,7 @@
 -- Copies of parts of a tree.
 use Rattle.std.specs.Prelude.{◌≡◌, ℕ, true, List}
-use Rattle.bundle_tree_piece.specs.declared.piece.Role.{Role}
-use Rattle.bundle_tree_piece.specs.Item.{Item}
+use Rattle.bundle_syntax.specs.declared.piece.Role.{Role}
+use Rattle.bundle_syntax.specs.Item.{Item}
 use Rattle.bundle_rules.specs.Rebuilds.{IsCopy}
 use Rattle.bundle_tree_places.specs.Edits.{is_occurrence}
 

@@ -1,7 +1,7 @@
 -- What an item of a module states in a bundle (ECMA-262, 16.2.3.7), by its list.
 use Rattle.std.specs.Prelude.{◌≡◌, ◌≢◌, List, [], ◌∷◌, ◌++◌, Option, Some, None}
-use Rattle.bundle_tree_leaf.specs.declared.ident.Ident as v_ident
-use Rattle.bundle_tree_leaf.specs.declared.kind.VarDeclKind.TheVariants as k
+use Rattle.bundle_syntax.specs.declared.ident.Ident as v_ident
+use Rattle.bundle_syntax.specs.declared.kind.VarDeclKind.TheVariants as k
 use Rattle.bundle_tree_ast.specs.declared.module.ModuleItem.{ModuleItem}
 use Rattle.bundle_tree_ast.specs.declared.module.ModuleItem.TheVariants as i_item
 use Rattle.bundle_tree_ast.specs.declared.module.ModuleDecl.TheVariants as i_decl
@@ -11,9 +11,9 @@ use Rattle.bundle_tree_ast.specs.declared.decl.Decl as v_decl
 use Rattle.bundle_tree_ast.specs.declared.expr.Expr as v_expr
 use Rattle.bundle_tree_ast.specs.declared.class.Function as v_function
 use Rattle.bundle_tree_ast.specs.declared.class.Class as v_class
-use Rattle.bundle_tree_piece.specs.declared.piece.Role.TheVariants as r
-use Rattle.bundle_tree_piece.specs.Item as h
-use Rattle.bundle_tree_piece.specs.Item.{Item}
+use Rattle.bundle_syntax.specs.declared.piece.Role.TheVariants as r
+use Rattle.bundle_syntax.specs.Item as h
+use Rattle.bundle_syntax.specs.Item.{Item}
 use Rattle.bundle_tree_listed.specs.Tree.{node, ident_items, expr_items, stmt_items, decl_items, class_items, function_items}
 use Rattle.bundle_rules.specs.Idents.{Ident}
 use Rattle.bundle_tree_places.specs.Edits.{Anywhere, InObject}

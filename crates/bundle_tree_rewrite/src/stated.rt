@@ -4,7 +4,7 @@ ghost use Rattle.std.specs.Prelude.{◌≡◌, IfOk};
 ghost use Rattle.std.specs.List.{flat_map};
 ghost use Rattle.bundle_tree_ast.specs.declared.module.ModuleDecl.TheVariants.{ExportDefaultDecl};
 ghost use Rattle.bundle_tree_ast.specs.declared.module.ModuleItem.TheVariants.{ModuleDecl as DeclItem, Stmt as StmtItem};
-ghost use Rattle.bundle_tree_piece.specs.declared.piece.Role.TheVariants.{Binding};
+ghost use Rattle.bundle_syntax.specs.declared.piece.Role.TheVariants.{Binding};
 ghost use Rattle.bundle_tree_listed.specs.Tree.{decl_items, expr_items, ident_items, key_value_prop_items, option_items, stmt_items};
 ghost use Rattle.bundle_rules.specs.Idents as idents;
 ghost use Rattle.bundle_tree_places.specs.Marks as marks;
@@ -12,11 +12,11 @@ ghost use Rattle.bundle_tree_rewrite.specs.Stated as stated;
 ghost use Rattle.bundle_tree_rewrite.specs.Stated.{DeclaresName, ReworkedObject, States};
 ghost use Rattle.bundle_tree_rebuild.specs.Work.{work_of};
 
+use bundle_syntax::kind::VarDeclKind;
 use bundle_tree_ast::{
     BindingIdent, Decl, DefaultDecl, Expr, Ident, KeyValueProp, ModuleDecl, ModuleItem, Pat, Prop,
     PropOrSpread, Stmt, VarDecl, VarDeclarator,
 };
-use bundle_tree_leaf::kind::VarDeclKind;
 use bundle_tree_places::Name;
 use bundle_tree_rebuild::{Rebuild, Rewriting, no_notes};
 use std::alloc::{AllocError, Global};

@@ -20,7 +20,7 @@ kind_of (Lib name) = h.Lib (string_bytes name)
 -- a bundle that is handed out: what it is made for, its number and its tree
 abbrev pub bundled_of : Bundle → h.Bundled
 bundled_of bundle =
-    record { kind = kind_of bundle.kind; id = bundle.id; tree = module_items 0 bundle.«module» }
+    record { kind = kind_of bundle.kind; id = bundle.id; tree = module_items 0 bundle.module }
 
 -- what a refusal tells: its fault, or that a growth was refused
 abbrev pub refusal_of : Option Fault → h.Answer
@@ -28,6 +28,6 @@ refusal_of (Some fault) = h.Refusal fault
 refusal_of None = h.NoMemory
 
 -- bundles, or what the refusal tells
-abbrev pub answer_of : Result (Vec Bundle Global) Error → h.Answer
-answer_of (Ok bundles) = h.Bundles (map bundled_of bundles.items)
-answer_of (Err refusal) = refusal_of (fault_of refusal)
+abbrev pub answer_told : Result (Vec Bundle Global) Error → h.Answer
+answer_told (Ok bundles) = h.Bundles (map bundled_of bundles.items)
+answer_told (Err refusal) = refusal_of (fault_of refusal)

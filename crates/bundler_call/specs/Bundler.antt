@@ -40,7 +40,8 @@ abbrev pub settings_held : {L R H : Type 0} {Is : H → Type 0} → Bundler L R 
 settings_held bundler = settings_of (config_of bundler)
 
 -- what its loader, its resolver and its hook may answer, and where they may fail
-abbrev pub parties_held : {L R H : Type 0} {Is : H → Type 0} → LoadGhosts L → ResolveGhosts R → ((vtable : H) → HookGhosts (Is vtable)) → Bundler L R H Is → Parties
+abbrev pub parties_held : {L R H : Type 0} {Is : H → Type 0} → LoadGhosts L → ResolveGhosts R →
+    ((vtable : H) → HookGhosts (Is vtable)) → Bundler L R H Is → Parties
 parties_held loads resolves hooks bundler = parties_of
     (loads.may_load (loader_of bundler))
     (loads.may_fail_load (loader_of bundler))
@@ -50,9 +51,9 @@ parties_held loads resolves hooks bundler = parties_of
     ((hooks (hook_of bundler).vtable).may_fail_hook (hook_of bundler).value)
 
 -- the files of entries
-abbrev pub files_of : List (String Global × FileName) → List Name
-files_of entries = map (λ entry. name_of entry.1) entries
+abbrev pub entry_files : List (String Global × FileName) → List Name
+entry_files entries = map (λ entry. name_of entry.1) entries
 
 -- the number of an entry's file
-abbrev pub HasNumber : Kept → String Global × FileName → ℕ → Type 0
-HasNumber kept entry id = number_in kept (name_of entry.1) ≡ Some id
+abbrev pub HasFileNumber : Kept → String Global × FileName → ℕ → Type 0
+HasFileNumber kept entry id = number_in kept (name_of entry.1) ≡ Some id

@@ -29,38 +29,44 @@ refused_by (Some fault) = Refused fault
 refused_by None = Stopped
 
 -- a part of the judging ends as the result says: it goes on, is refused by the fault that is told, or stops for want of memory
-abbrev pub Ends : {T : Type 0} → Result T Error → (Outcome → Type 0) → Type 0
-Ends (Ok x) part = part GoesOn
-Ends (Err refusal) part = part (refused_by (fault_of refusal))
+abbrev pub EndsJudging : {T : Type 0} → Result T Error → (Outcome → Type 0) → Type 0
+EndsJudging (Ok x) part = part GoesOn
+EndsJudging (Err refusal) part = part (refused_by (fault_of refusal))
 
 -- as far as a part of the judging goes on, what is judged after it is judged of the whole; where it is refused or stops, the whole does
-abbrev pub LeadsOn : {T : Type 0} → Result T Error → (whole rest : Outcome → Kept → Type 0) → Kept → Type 0
-LeadsOn (Ok x) whole rest new = (outcome : Outcome) (last : Kept) → rest outcome last → whole outcome last
+abbrev pub LeadsOn : {T : Type 0} → Result T Error → (whole rest : Outcome → Kept → Type 0) → Kept →
+    Type 0
+LeadsOn (Ok x) whole rest new = (outcome : Outcome) (last : Kept) → rest outcome last →
+    whole outcome last
 LeadsOn (Err refusal) whole rest new = whole (refused_by (fault_of refusal)) new
 
 -- what this loader and this resolver may answer, and where they may fail; no hook is asked
-abbrev pub asked_by : {L R : Type 0} → (L → Name → ModuleData → Type 0) → (L → Name → Type 0) → (R → Name → List ℕ → Name → Type 0) → (R → Name → List ℕ → Type 0) → L → R → Parties
-asked_by may_load may_fail_load may_resolve may_fail_resolve loader resolver =
+abbrev pub parties_asked : {L R : Type 0} → (L → Name → ModuleData → Type 0) → (L → Name → Type 0) →
+    (R → Name → List ℕ → Name → Type 0) → (R → Name → List ℕ → Type 0) → L → R → Parties
+parties_asked may_load may_fail_load may_resolve may_fail_resolve loader resolver =
     parties_of (may_load loader) (may_fail_load loader) (may_resolve resolver) (may_fail_resolve resolver) (λ file is_entry properties. ⊥) (λ file is_entry. ⊥)
 
 -- no two entries have one name or one file
-abbrev pub AreApart : List Entry → Type 0
-AreApart entries = (i j : ℕ) (a b : Entry) → i < j → slice_get entries i ≡ Some a → slice_get entries j ≡ Some b → (a.name ≡ b.name) ⊎ (a.file ≡ b.file) → ⊥
+abbrev pub AreEntriesApart : List Entry → Type 0
+AreEntriesApart entries = (i j : ℕ) (a b : Entry) → i < j → slice_get entries i ≡ Some a →
+    slice_get entries j ≡ Some b → (a.name ≡ b.name) ⊎ (a.file ≡ b.file) → ⊥
 
 -- the fault is that of the first entry that doubles another
 abbrev pub IsFaultOfList : List Entry → Fault → Type 0
-IsFaultOfList entries fault = (later : Entry) × IsDoubledEntry entries later × (fault ≡ DoubledEntry later.file later.name)
+IsFaultOfList entries fault =
+    (later : Entry) × IsDoubledEntry entries later × (fault ≡ DoubledEntry later.file later.name)
 
 -- the fault that is told is the first in the order of judging; where none is, so much is kept as was kept on the way
-abbrev pub IsTold : Parties → Settings → List Entry → (old new : Kept) → Option Fault → Type 0
-IsTold parties settings entries old new (Some fault) =
+abbrev pub IsFirstFaultTold : Parties → Settings → List Entry → (old new : Kept) → Option Fault →
+    Type 0
+IsFirstFaultTold parties settings entries old new (Some fault) =
     Refuses parties settings entries old fault new
-IsTold parties settings entries old new None = Stops parties settings entries old new
+IsFirstFaultTold parties settings entries old new None = Stops parties settings entries old new
 
 -- a refusal tells of the first fault in the order of judging, or of want of memory on the way
-abbrev pub IsToldOf : Parties → Settings → List Entry → (old new : Kept) → Error → Type 0
-IsToldOf parties settings entries old new refusal =
-    IsTold parties settings entries old new (fault_of refusal)
+abbrev pub IsRefusalTold : Parties → Settings → List Entry → (old new : Kept) → Error → Type 0
+IsRefusalTold parties settings entries old new refusal =
+    IsFirstFaultTold parties settings entries old new (fault_of refusal)
 
 -- a bundle is that of an entry, over what is kept
 abbrev pub IsBundledFor : Parties → Settings → Kept → String Global × FileName → Bundle → Type 0
@@ -71,7 +77,7 @@ IsBundledFor parties settings kept entry bundle =
 pub record IsFinishedBundle (config : Config) (merged made : Bundle) : Type 0 where
   pub kind : made.kind ≡ merged.kind
   pub id : made.id ≡ merged.id
-  pub tree : IsFinished config (module_items 0 merged.«module») (module_items 0 made.«module»)
+  pub tree : IsFinished config (module_items 0 merged.module) (module_items 0 made.module)
 
 -- a bundle, once it is finished, is that of an entry, over what is kept
 abbrev pub IsMergedBundle : Parties → Config → Kept → String Global × FileName → Bundle → Type 0

@@ -1,3 +1,8 @@
+pub mod Hashed
+pub mod Held
+pub mod KeptFiles
+pub mod Marks
+pub mod Placed
 pub mod Kept
 pub mod Answer
 pub mod Library

@@ -17,26 +17,27 @@ use Rattle.bundle_rules.specs.Kept.{Kept, number_in, program_of}
 use Rattle.bundle_rules.specs.Program.{Program}
 use Rattle.bundler_entry.specs.Finished.{IsFinished}
 use Rattle.bundler_entry.specs.Made.{IsContextsFaultOf, IsEntryBundle}
-use Rattle.bundler_entry.specs.Source.{IsProgramOf as IsReadAs}
+use Rattle.bundler_entry.specs.Source.{IsReadProgram as IsReadAs}
 use Rattle.bundler_entry.specs.Unlinked.{error_of}
-use Rattle.bundler_entry.specs.declared.source.Program.{Program as Read}
-use Rattle.bundler_entry.specs.declared.unlinked.Unlinked.{Unlinked}
+use Rattle.bundler_entry.specs.declared.source.ReadFiles.{ReadFiles as Read}
+use Rattle.bundler_entry.specs.declared.unlinked.EntryError.{EntryError}
 use Rattle.bundler_call.specs.Kept.{parties_of, IsBounded}
-use Rattle.bundler_call.specs.Loading.{files_on, ids_on, AreAsked, AreNumbered}
+use Rattle.bundler_call.specs.Loading.{files_on, ids_on, AreAsked, AreFilesNumbered}
 use Rattle.bundler_call.specs.declared.load.LoadList.{LoadList}
 
 -- a list is loaded: no file stands twice on it, its files have the numbers that are noted, which
 -- are numbers that a file can have, and the requests of each are noted
-pub record IsLoaded (settings : Settings) (kept : Kept) (list : LoadList) : Type 0 where
+pub record IsListLoaded (settings : Settings) (kept : Kept) (list : LoadList) : Type 0 where
   pub once : IsDistinct (files_on list)
-  pub numbered : AreNumbered kept list
+  pub numbered : AreFilesNumbered kept list
   pub bounded : IsBounded kept
   pub asked : AreAsked settings kept list
   pub long : length list.deps.items ≡ length (files_on list)
 
 -- what was read of a list is the program of each entry, and has the numbers of its files
-pub record IsReadOf (settings : Settings) (kept : Kept) (list : LoadList) (read : Read) : Type 0 where
-  pub loaded : IsLoaded settings kept list
+pub record IsReadListOf (settings : Settings) (kept : Kept) (list : LoadList)
+    (read : Read) : Type 0 where
+  pub loaded : IsListLoaded settings kept list
   pub program : (entry : ℕ) → IsReadAs (program_of kept settings entry) read
   pub ids : read.files.ids.keys ≡ ids_on list
 
@@ -49,11 +50,13 @@ abbrev pub IsNumberedOn : Kept → LoadList → String Global × FileName → �
 IsNumberedOn kept list entry id = IsFileOn kept list (name_of entry.1) id
 
 -- what this hook may answer, and where it may fail; nobody else is asked
-abbrev pub answered_by : (Name → Bool → List (KeyValueProp Expr) → Type 0) → (Name → Bool → Type 0) → Parties
+abbrev pub answered_by : (Name → Bool → List (KeyValueProp Expr) → Type 0) →
+    (Name → Bool → Type 0) → Parties
 answered_by may_give may_fail_hook = parties_of (λ file given. ⊥) (λ file. ⊥) (λ file specifier found. ⊥) (λ file specifier. ⊥) may_give may_fail_hook
 
 -- a module is what is merged of a program that is accepted: finished, it is the program's bundle
-pub record IsMergedFor (parties : Parties) (config : Config) (p : Program) (merged : Module) : Type 0 where
+pub record IsMergedFor (parties : Parties) (config : Config) (p : Program)
+    (merged : Module) : Type 0 where
   pub accepted : AcceptsProgram p parties
   pub bundle : (made : Module) →
       IsFinished config (module_items 0 merged) (module_items 0 made) →
@@ -61,7 +64,7 @@ pub record IsMergedFor (parties : Parties) (config : Config) (p : Program) (merg
 
 -- why a program makes no module: its first fault or the first of the hook's answers, or want of
 -- memory; or contexts do not suffice, and it is accepted
-abbrev pub IsRefusalOfProgram : Parties → Program → Unlinked → Type 0
+abbrev pub IsRefusalOfProgram : Parties → Program → EntryError → Type 0
 IsRefusalOfProgram parties p unlinked =
     IfSome (fault_of (error_of unlinked)) (λ fault.
     RefusesProgram p parties fault
@@ -69,7 +72,7 @@ IsRefusalOfProgram parties p unlinked =
 
 -- contexts do not suffice for the program of one of the entries: those before it are accepted, and
 -- so is its own
-pub record LacksContexts (kept : Kept) (settings : Settings) (parties : Parties)
+pub record LacksEntryContexts (kept : Kept) (settings : Settings) (parties : Parties)
     (entries : List Entry) (fault : Fault) : Type 0 where
   pub i : ℕ
   pub entry : Entry
@@ -86,8 +89,8 @@ pub record LacksContexts (kept : Kept) (settings : Settings) (parties : Parties)
 
 -- why the entries make no bundles: the fault of the first that is refused, or want of memory; or
 -- contexts do not suffice
-abbrev pub IsRefusalOfEntries : Parties → Settings → Kept → List Entry → Unlinked → Type 0
+abbrev pub IsRefusalOfEntries : Parties → Settings → Kept → List Entry → EntryError → Type 0
 IsRefusalOfEntries parties settings kept entries unlinked =
     IfSome (fault_of (error_of unlinked)) (λ fault.
     RefusesEntries kept settings parties entries fault
-    ⊎ LacksContexts kept settings parties entries fault)
+    ⊎ LacksEntryContexts kept settings parties entries fault)

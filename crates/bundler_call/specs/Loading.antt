@@ -10,7 +10,7 @@ use Rattle.bundle_rules.specs.Kept.{Kept, kept_file, kept_module, number_in}
 use Rattle.bundle_rules.specs.Judging.{requests_in}
 use Rattle.bundle_rules.specs.Program.{Loaded}
 use Rattle.bundle_rules.specs.Faults.{IsFaultless}
-use Rattle.bundler_call.specs.Kept.{IsMet}
+use Rattle.bundler_call.specs.Kept.{IsFileMet}
 use Rattle.bundler_call.specs.declared.load.LoadList.{LoadList}
 
 -- the files on a load list, in their order
@@ -22,51 +22,60 @@ abbrev pub ids_on : LoadList → List ℕ
 ids_on list = map (λ e. e.1) list.files
 
 -- a file has gone last, unless it was there
-abbrev pub IsPlaced : List Name → Name → List Name → Type 0
-IsPlaced old file new = (Contains old file × (new ≡ old)) ⊎ ((Contains old file → ⊥) × (new ≡ old ++ file ∷ []))
+abbrev pub GoesLast : List Name → Name → List Name → Type 0
+GoesLast old file new =
+    (Contains old file × (new ≡ old)) ⊎ ((Contains old file → ⊥) × (new ≡ old ++ file ∷ []))
 
 -- a list with something behind it, or nothing
-abbrev pub Begins : List Name → List Name → Type 0
-Begins old new = (more : List Name) × (new ≡ old ++ more)
+abbrev pub BeginsList : List Name → List Name → Type 0
+BeginsList old new = (more : List Name) × (new ≡ old ++ more)
 
 -- each of these files was met
 abbrev pub AreMet : Kept → List Name → Type 0
-AreMet kept files = (place : ℕ) (file : Name) → slice_get files place ≡ Some file → IsMet kept file
+AreMet kept files = (place : ℕ) (file : Name) → slice_get files place ≡ Some file →
+    IsFileMet kept file
 
 -- a file is kept, and is not at fault by itself
-abbrev pub IsSound : Kept → Name → Type 0
-IsSound kept file = (loaded : Loaded) × (kept_module kept file ≡ Some loaded) × IsFaultless file loaded.items
+abbrev pub IsFileSound : Kept → Name → Type 0
+IsFileSound kept file =
+    (loaded : Loaded) × (kept_module kept file ≡ Some loaded) × IsFaultless file loaded.items
 
 -- each of these files is
-abbrev pub AreSound : Kept → List Name → Type 0
-AreSound kept files = (place : ℕ) (file : Name) → slice_get files place ≡ Some file → IsSound kept file
+abbrev pub AreFilesSound : Kept → List Name → Type 0
+AreFilesSound kept files = (place : ℕ) (file : Name) → slice_get files place ≡ Some file →
+    IsFileSound kept file
 
 -- the files on a load list have the numbers that are noted
-abbrev pub AreNumbered : Kept → LoadList → Type 0
-AreNumbered kept list = (place : ℕ) (e : FileName × ℕ) → slice_get list.files place ≡ Some e → number_in kept (name_of e.0) ≡ Some e.1
+abbrev pub AreFilesNumbered : Kept → LoadList → Type 0
+AreFilesNumbered kept list = (place : ℕ) (e : FileName × ℕ) → slice_get list.files place ≡ Some e →
+    number_in kept (name_of e.0) ≡ Some e.1
 
 -- a request of a file leads to the number of the file that is kept for it, which is one of these
-abbrev pub LeadsTo : Kept → List ℕ → Name → String Global × ℕ → Type 0
-LeadsTo kept numbers file dep =
+abbrev pub RequestLeads : Kept → List ℕ → Name → String Global × ℕ → Type 0
+RequestLeads kept numbers file dep =
     (found : Name) × (kept_file kept (record { file = file; specifier = string_bytes dep.0 }) ≡ Some found) × (number_in kept found ≡ Some dep.1) × Contains numbers dep.1
 
 -- each of these does
 abbrev pub AllLead : Kept → List ℕ → Name → List (String Global × ℕ) → Type 0
-AllLead kept numbers file deps = (dep : String Global × ℕ) → Contains deps dep → LeadsTo kept numbers file dep
+AllLead kept numbers file deps = (dep : String Global × ℕ) → Contains deps dep →
+    RequestLeads kept numbers file dep
 
 -- these are the requests of a kept file, in their order, and each leads to the number of the file that is kept for it, which is one of these
-pub record IsAsked (settings : Settings) (kept : Kept) (numbers : List ℕ) (file : Name) (deps : List (String Global × ℕ)) : Type 0 where
+pub record IsAsked (settings : Settings) (kept : Kept) (numbers : List ℕ) (file : Name)
+    (deps : List (String Global × ℕ)) : Type 0 where
   pub asked : (loaded : Loaded) ×
       (kept_module kept file ≡ Some loaded) ×
       (map (λ dep. string_bytes dep.0) deps ≡ requests_in settings loaded.items)
   pub leads : AllLead kept numbers file deps
 
 -- the requests of a file were noted last
-abbrev pub IsNoted : Settings → Kept → Name → (old new : LoadList) → Type 0
-IsNoted settings kept file old new =
+abbrev pub AreRequestsNoted : Settings → Kept → Name → (old new : LoadList) → Type 0
+AreRequestsNoted settings kept file old new =
     (its : Vec (String Global × ℕ) Global) × (new.deps.items ≡ old.deps.items ++ its ∷ []) × IsAsked settings kept (ids_on new) file its.items
 
 -- the requests of the files on a list that were worked on are noted
 abbrev pub AreAsked : Settings → Kept → LoadList → Type 0
 AreAsked settings kept list =
-    (place : ℕ) (file : Name) (its : Vec (String Global × ℕ) Global) → slice_get (files_on list) place ≡ Some file → slice_get list.deps.items place ≡ Some its → IsAsked settings kept (ids_on list) file its.items
+    (place : ℕ) (file : Name) (its : Vec (String Global × ℕ) Global) →
+    slice_get (files_on list) place ≡ Some file → slice_get list.deps.items place ≡ Some its →
+    IsAsked settings kept (ids_on list) file its.items

@@ -6,7 +6,7 @@ use Rattle.bundle_tree.specs.declared.load.LoadError.{LoadError}
 use Rattle.bundle_tree.specs.declared.load.LoadError.TheVariants.{Failed as LoadFailed, OutOfMemory as LoadNoMemory}
 use Rattle.bundle_tree.specs.declared.resolve.ResolveError.{ResolveError}
 use Rattle.bundle_tree.specs.declared.resolve.ResolveError.TheVariants.{Failed as ResolveFailed, OutOfMemory as ResolveNoMemory}
-use Rattle.bundler_kept.specs.declared.kept.Request.{Request}
+use Rattle.bundler_call.specs.declared.kept.Request.{Request}
 
 -- the refusal of a bundle where a file is not loaded
 abbrev pub load_refusal : FileName → LoadError → Error

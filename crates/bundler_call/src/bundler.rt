@@ -8,15 +8,16 @@ ghost use Rattle.bundle_rules.specs.Entries.{Settings};
 ghost use Rattle.bundle_rules.specs.Headline.{AnswersNothing, IsHeadline};
 ghost use Rattle.bundle_rules.specs.Judging.{Completes, NumbersEach};
 ghost use Rattle.bundle_rules.specs.Kept.{nothing_kept, Kept};
-ghost use Rattle.bundler_call.specs.Answer.{answer_of};
-ghost use Rattle.bundler_call.specs.Bundler.{config_of, files_of, hook_of, kept_by, loader_of, parties_held, resolver_of, settings_held, HasNumber};
-ghost use Rattle.bundler_call.specs.Judged.{Ends, AreApart, IsFaultOfList, IsFinishedBundle, IsMergedBundle, IsToldOf, asked_by};
+ghost use Rattle.bundler_call.specs.Answer.{answer_told};
+ghost use Rattle.bundler_call.specs.Bundler.{config_of, entry_files, hook_of, kept_by, loader_of, parties_held, resolver_of, settings_held, HasFileNumber};
+ghost use Rattle.bundler_call.specs.Judged.{EndsJudging, AreEntriesApart, IsFaultOfList, IsFinishedBundle, IsMergedBundle, IsRefusalTold, parties_asked};
 ghost use Rattle.bundler_call.specs.Kept.{entry_of, kept_of, settings_of, IsBounded};
 ghost use Rattle.bundler_call.specs.Library.{GoesFurther, MovesOn};
-ghost use Rattle.bundler_call.specs.Linking.{answered_by, IsLoaded, IsNumberedOn, IsReadOf, IsRefusalOfEntries};
-ghost use Rattle.bundler_call.specs.Loading.{files_on, AreMet, AreNumbered, AreSound};
+ghost use Rattle.bundler_call.specs.Linking.{answered_by, IsListLoaded, IsNumberedOn, IsReadListOf, IsRefusalOfEntries};
+ghost use Rattle.bundler_call.specs.Loading.{files_on, AreMet, AreFilesNumbered, AreFilesSound};
 ghost use Rattle.bundler_call.specs.declared.load.LoadList.{LoadList};
 
+use crate::Kept as Keeping;
 use crate::bundle::{Bundle, BundleKind};
 use crate::library::{Asking, Library};
 use crate::linked::module_on;
@@ -29,8 +30,7 @@ use bundle_tree_names::ModuleId;
 use bundle_tree_names::config::Config;
 use bundle_tree_names::error::Error;
 use bundle_tree_names::file_name::FileName;
-use bundler_entry::{Call, Program, Unlinked, finished};
-use bundler_kept::Kept as Keeping;
+use bundler_entry::{EntryCall, EntryError, ReadFiles, finished};
 use indexmap::IndexSet;
 use std::alloc::{AllocError, Global};
 
@@ -74,13 +74,13 @@ impl<L: Load + Drop, R: Resolve + Drop> Bundler<L, R> {
         ensures headline { IsHeadline
             (parties_held L.Load R.Resolve ⟦<dyn Hook as Hook>⟧ self.old)
             (settings_held self.old) (map entry_of entries.items)
-            (kept_by self.old) (answer_of result) (kept_by self.new) }
+            (kept_by self.old) (answer_told result) (kept_by self.new) }
         ensures loader { loader_of self.new ≡ loader_of self.old }
         ensures resolver { resolver_of self.new ≡ resolver_of self.old }
         ensures config { config_of self.new ≡ config_of self.old }
         ensures hook { hook_of self.new ≡ hook_of self.old }
         ensures no_entry { entries.items ≡ [] →
-            AnswersNothing (kept_by self.old) (answer_of result) (kept_by self.new)
+            AnswersNothing (kept_by self.old) (answer_told result) (kept_by self.new)
             × (self.new ≡ self.old) }
     {
         if entries.is_empty() {
@@ -108,9 +108,9 @@ impl<L: Load + Drop, R: Resolve + Drop> Bundler<L, R> {
         ensures headline { (kept : Kept) × IsHeadline
             (parties_held L.Load R.Resolve ⟦<dyn Hook as Hook>⟧ self)
             (settings_held self) (map entry_of entries.items)
-            (kept_by self) (answer_of result) kept }
+            (kept_by self) (answer_told result) kept }
         ensures no_entry { entries.items ≡ [] →
-            AnswersNothing (kept_by self) (answer_of result) (kept_by self) }
+            AnswersNothing (kept_by self) (answer_told result) (kept_by self) }
     {
         if entries.is_empty() {
             return Ok(Vec::new(alloc));
@@ -145,21 +145,21 @@ fn loaded<L: Load + Drop, R: Resolve + Drop>(
 ) -> Result<(LoadList, Vec<ModuleId>), Error>
     requires { 0 < length entries.now }
     ensures grows { GoesFurther L.may_load R.may_resolve (settings_of config.now)
-        (files_of entries.now) library.old library.new }
+        (entry_files entries.now) library.old library.new }
     ensures lent { asking ≡ Asking.Lent → library.new.loader ≡ library.old.loader }
     ensures loaded { IfOk result (λ made.
-        IsLoaded (settings_of config.now) (kept_of library.new.kept) made.0) }
-    ensures sound { IfOk result (λ made. AreSound (kept_of library.new.kept) (files_on made.0)) }
+        IsListLoaded (settings_of config.now) (kept_of library.new.kept) made.0) }
+    ensures sound { IfOk result (λ made. AreFilesSound (kept_of library.new.kept) (files_on made.0)) }
     ensures numbered { IfOk result (λ made.
         AllZip (IsNumberedOn (kept_of library.new.kept) made.0) entries.now made.1.items) }
     ensures completes { IfOk result (λ made.
         Completes
-        (asked_by L.may_load L.may_fail_load R.may_resolve R.may_fail_resolve library.old.loader
+        (parties_asked L.may_load L.may_fail_load R.may_resolve R.may_fail_resolve library.old.loader
         library.old.resolver)
         (settings_of config.now) (map entry_of entries.now) (kept_of library.old.kept)
         (kept_of library.new.kept)) }
-    ensures refused { IfErr result (IsToldOf
-        (asked_by L.may_load L.may_fail_load R.may_resolve R.may_fail_resolve library.old.loader
+    ensures refused { IfErr result (IsRefusalTold
+        (parties_asked L.may_load L.may_fail_load R.may_resolve R.may_fail_resolve library.old.loader
         library.old.resolver)
         (settings_of config.now) (map entry_of entries.now) (kept_of library.old.kept)
         (kept_of library.new.kept)) }
@@ -172,7 +172,7 @@ fn loaded<L: Load + Drop, R: Resolve + Drop>(
 
 // Refuses two entries of one name or one file.
 fn refuse_doubled_entry(alloc: Global, entries: &[(String, FileName)]) -> Result<(), Error>
-    ensures apart { OnOk result (AreApart (map entry_of entries.now)) }
+    ensures apart { OnOk result (AreEntriesApart (map entry_of entries.now)) }
     ensures doubled { IfErr result (λ refusal.
         IfSome (fault_of refusal) (IsFaultOfList (map entry_of entries.now))) }
 {
@@ -206,19 +206,19 @@ fn numbered<L: Load + Drop, R: Resolve + Drop>(
     entries: &[(String, FileName)],
 ) -> Result<(LoadList, Vec<ModuleId>), Error>
     ensures numbered { IfOk result (λ made.
-        AllZip (HasNumber (kept_of library.new.kept)) entries.now made.1.items) }
+        AllZip (HasFileNumber (kept_of library.new.kept)) entries.now made.1.items) }
     ensures bounded { IfOk result (λ made.
         0 < length entries.now → IsBounded (kept_of library.new.kept)) }
-    ensures listed { IfOk result (λ made. AreNumbered (kept_of library.new.kept) made.0) }
+    ensures listed { IfOk result (λ made. AreFilesNumbered (kept_of library.new.kept) made.0) }
     ensures unasked { IfOk result (λ made. made.0.deps.items ≡ []) }
     ensures met { IfOk result (λ made. AreMet (kept_of library.new.kept) (files_on made.0)) }
     ensures grows { (settings : Settings) →
-        MovesOn L.may_load R.may_resolve settings (files_of entries.now) library.old library.new }
-    ensures judged { Ends result (λ outcome.
-        NumbersEach (kept_of library.old.kept) (files_of entries.now) outcome
+        MovesOn L.may_load R.may_resolve settings (entry_files entries.now) library.old library.new }
+    ensures judged { EndsJudging result (λ outcome.
+        NumbersEach (kept_of library.old.kept) (entry_files entries.now) outcome
         (kept_of library.new.kept)) }
     ensures all { IfOk result (λ made.
-        AreApart (map entry_of entries.now) → files_on made.0 ≡ files_of entries.now) }
+        AreEntriesApart (map entry_of entries.now) → files_on made.0 ≡ entry_files entries.now) }
 {
     let mut list = LoadList::new(alloc);
     let mut ids = Vec::new(alloc);
@@ -265,17 +265,17 @@ fn merged_bundles(
     hook: &dyn Hook,
     entries: Vec<(String, FileName)>,
     ids: Vec<ModuleId>,
-) -> Result<Vec<Bundle>, Unlinked>
-    requires { AreSound (kept_of kept.now) (files_on list.now) }
+) -> Result<Vec<Bundle>, EntryError>
+    requires { AreFilesSound (kept_of kept.now) (files_on list.now) }
     ensures bundles { IfOk result (λ bundles.
-        IsLoaded (settings_of config.now) (kept_of kept.now) list.now →
+        IsListLoaded (settings_of config.now) (kept_of kept.now) list.now →
         AllZip (IsNumberedOn (kept_of kept.now) list.now) entries.items ids.items →
         AllZip
         (IsMergedBundle (answered_by (may_give hook.now) (may_fail_hook hook.now)) config.now
         (kept_of kept.now))
         entries.items bundles.items) }
     ensures refused { IfErr result (λ unlinked.
-        IsLoaded (settings_of config.now) (kept_of kept.now) list.now →
+        IsListLoaded (settings_of config.now) (kept_of kept.now) list.now →
         AllZip (IsNumberedOn (kept_of kept.now) list.now) entries.items ids.items →
         IsRefusalOfEntries (answered_by (may_give hook.now) (may_fail_hook hook.now))
         (settings_of config.now) (kept_of kept.now) (map entry_of entries.items) unlinked) }
@@ -287,19 +287,19 @@ fn merged_bundles(
 // The same, given what the files say.
 fn bundles_of<'x>(
     alloc: Global,
-    program: &Program<'x>,
+    program: &ReadFiles<'x>,
     config: &Config,
     hook: &dyn Hook,
     entries: Vec<(String, FileName)>,
     ids: Vec<ModuleId>,
-) -> Result<Vec<Bundle>, Unlinked>
+) -> Result<Vec<Bundle>, EntryError>
     ensures bundles { IfOk result (λ bundles. (kept : Kept) (list : LoadList) →
-        IsReadOf (settings_of config.now) kept list program.now →
+        IsReadListOf (settings_of config.now) kept list program.now →
         AllZip (IsNumberedOn kept list) entries.items ids.items →
         AllZip (IsMergedBundle (answered_by (may_give hook.now) (may_fail_hook hook.now)) config.now
         kept) entries.items bundles.items) }
     ensures refused { IfErr result (λ unlinked. (kept : Kept) (list : LoadList) →
-        IsReadOf (settings_of config.now) kept list program.now →
+        IsReadListOf (settings_of config.now) kept list program.now →
         AllZip (IsNumberedOn kept list) entries.items ids.items →
         IsRefusalOfEntries (answered_by (may_give hook.now) (may_fail_hook hook.now))
         (settings_of config.now) kept (map entry_of entries.items) unlinked) }
@@ -307,7 +307,7 @@ fn bundles_of<'x>(
     let mut bundles = Vec::new(alloc);
     for (entry, id) in entries.into_iter().zip(ids) {
         let (name, file) = entry;
-        let call = Call {
+        let call = EntryCall {
             program,
             config,
             entry: &file,

@@ -9,19 +9,19 @@ ghost use Rattle.bundle_rules.specs.Entries.{Settings};
 ghost use Rattle.bundle_rules.specs.Faults.{ResolveFails, fault_of};
 ghost use Rattle.bundle_rules.specs.Judging.{Loads, Numbers, Resolves};
 ghost use Rattle.bundle_rules.specs.Kept.{asked_eq, kept_file, kept_module, nothing_kept, number_in};
-ghost use Rattle.bundler_kept.specs.Kept.{asked_of, names_in, resolved_in, tree_room, trees_in, HasRoomFor, LoadedAreMet};
-ghost use Rattle.bundler_call.specs.Kept.{kept_as, kept_of, settings_of, IsBounded, IsKept, IsMet, IsRequested, MayBeMet, StandsFor};
-ghost use Rattle.bundler_call.specs.Judged.{Tells, asked_by};
-ghost use Rattle.bundler_call.specs.Library.{GoesFurther, Keeps, MovesOn};
+ghost use Rattle.bundler_call.specs.KeptFiles.{asked_of, names_in, resolved_in, tree_room, trees_in, HasRoomFor, LoadedAreMet};
+ghost use Rattle.bundler_call.specs.Kept.{kept_as, kept_of, settings_of, IsBounded, IsKept, IsFileMet, IsRequested, MayBeMet, LoadsAlike};
+ghost use Rattle.bundler_call.specs.Judged.{Tells, parties_asked};
+ghost use Rattle.bundler_call.specs.Library.{GoesFurther, KeepsLibrary, MovesOn};
 ghost use Rattle.bundler_call.specs.Refusal.{load_refusal, resolve_refusal};
 
+use crate::{Kept, Request};
 use bundle_tree::load::{Load, LoadError, ModuleData};
 use bundle_tree::resolve::{Resolve, ResolveError};
 use bundle_tree_names::ModuleId;
 use bundle_tree_names::config::Config;
 use bundle_tree_names::error::Error;
 use bundle_tree_names::file_name::FileName;
-use bundler_kept::{Kept, Request};
 use std::alloc::{AllocError, Global};
 
 /// How a loader is asked for the module of a file.
@@ -59,18 +59,18 @@ impl<L: Load + Drop, R: Resolve + Drop> Library<L, R> {
     pub(crate) fn id(&mut self, file: &FileName) -> Result<ModuleId, Error>
         ensures numbered { IfOk result (λ id.
             number_in (kept_of self.new.kept) (name_of file.now) ≡ Some id) }
-        ensures met { OnOk result (IsMet (kept_of self.new.kept) (name_of file.now)) }
+        ensures met { OnOk result (IsFileMet (kept_of self.new.kept) (name_of file.now)) }
         ensures bounded { IsBounded (kept_of self.new.kept) }
-        ensures keeps { Keeps self.old self.new }
+        ensures keeps { KeepsLibrary self.old self.new }
         ensures grows { (settings : Settings) (entries : List Name) →
             MayBeMet (kept_of self.old.kept) (name_of file.now) entries →
             MovesOn L.may_load R.may_resolve settings entries self.old self.new }
         ensures judged { Tells result (λ outcome.
             Numbers (kept_of self.old.kept) (name_of file.now) outcome (kept_of self.new.kept)) }
         ensures unchanged { OnErr result (kept_of self.new.kept ≡ kept_of self.old.kept) }
-        ensures known { IsMet (kept_of self.old.kept) (name_of file.now) →
+        ensures known { IsFileMet (kept_of self.old.kept) (name_of file.now) →
             kept_of self.new.kept ≡ kept_of self.old.kept }
-        ensures absent { OnErr result (¬ IsMet (kept_of self.old.kept) (name_of file.now)) }
+        ensures absent { OnErr result (¬ IsFileMet (kept_of self.old.kept) (name_of file.now)) }
     {
         self.kept.id(file)
     }
@@ -116,18 +116,18 @@ impl<L: Load + Drop, R: Resolve + Drop> Library<L, R> {
         config: &Config,
         asking: Asking,
     ) -> Result<(), Error>
-        requires { IsMet (kept_of self.old.kept) (name_of file.now) }
+        requires { IsFileMet (kept_of self.old.kept) (name_of file.now) }
         ensures there { OnOk result (IsKept (kept_of self.new.kept) (name_of file.now)) }
         ensures grows { (entries : List Name) →
             GoesFurther L.may_load R.may_resolve (settings_of config.now) entries self.old
             self.new }
         ensures lent { asking ≡ Asking.Lent → self.new.loader ≡ self.old.loader }
         ensures stands { OnOk result
-            (StandsFor L.may_load L.may_fail_load self.old.loader self.new.loader
+            (LoadsAlike L.may_load L.may_fail_load self.old.loader self.new.loader
             (kept_of self.new.kept)) }
         ensures judged { Tells result (λ outcome.
             Loads
-            (asked_by L.may_load L.may_fail_load R.may_resolve R.may_fail_resolve self.old.loader
+            (parties_asked L.may_load L.may_fail_load R.may_resolve R.may_fail_resolve self.old.loader
             self.old.resolver)
             (settings_of config.now) (kept_of self.old.kept) (name_of file.now) outcome
             (kept_of self.new.kept)) }
@@ -170,7 +170,7 @@ impl<L: Load + Drop, R: Resolve + Drop> Library<L, R> {
         requires { IsKept (kept_of self.old.kept) (name_of request.now.file) }
         ensures there { OnOk result
             (IsSome (kept_file (kept_of self.new.kept) (asked_of request.now))) }
-        ensures keeps { Keeps self.old self.new }
+        ensures keeps { KeepsLibrary self.old self.new }
         ensures grows { (settings : Settings) (entries : List Name) →
             IsRequested settings (kept_of self.old.kept) (asked_of request.now) →
             MovesOn L.may_load R.may_resolve settings entries self.old self.new }
@@ -178,14 +178,14 @@ impl<L: Load + Drop, R: Resolve + Drop> Library<L, R> {
             ((found : Name) →
             kept_file (kept_of self.new.kept) (asked_of request.now) ≡ Some found →
             Resolves
-            (asked_by L.may_load L.may_fail_load R.may_resolve R.may_fail_resolve self.old.loader
+            (parties_asked L.may_load L.may_fail_load R.may_resolve R.may_fail_resolve self.old.loader
             self.old.resolver)
             (kept_of self.old.kept) (asked_of request.now) (Some found) (kept_of self.new.kept)) }
         ensures failed { IfErr result (λ refusal.
             IfSome (fault_of refusal) (λ fault.
             (fault ≡ ResolveFails (name_of request.now.file) (string_bytes request.now.specifier))
             × Resolves
-            (asked_by L.may_load L.may_fail_load R.may_resolve R.may_fail_resolve self.old.loader
+            (parties_asked L.may_load L.may_fail_load R.may_resolve R.may_fail_resolve self.old.loader
             self.old.resolver)
             (kept_of self.old.kept) (asked_of request.now) None (kept_of self.new.kept))) }
         ensures unchanged { OnErr result (kept_of self.new.kept ≡ kept_of self.old.kept) }

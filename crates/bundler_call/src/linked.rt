@@ -4,29 +4,29 @@ ghost use Rattle.std.specs.Prelude.{IfErr, IfOk};
 ghost use Rattle.bundle_tree_names.specs.FileName.{name_of};
 ghost use Rattle.bundle_rules.specs.Kept.{Kept, program_of};
 ghost use Rattle.bundler_call.specs.Kept.{settings_of};
-ghost use Rattle.bundler_call.specs.Linking.{answered_by, IsFileOn, IsMergedFor, IsReadOf, IsRefusalOfProgram};
+ghost use Rattle.bundler_call.specs.Linking.{answered_by, IsFileOn, IsMergedFor, IsReadListOf, IsRefusalOfProgram};
 ghost use Rattle.bundler_call.specs.declared.load.LoadList.{LoadList};
 
 use bundle_tree::hook::Hook;
 use bundle_tree_ast::Module;
 use bundle_tree_names::ModuleId;
-use bundler_entry::{Call, Unlinked, ask_all, linked_entry, module_of};
+use bundler_entry::{EntryCall, EntryError, ask_all, linked_entry, module_of};
 use std::alloc::Global;
 
 /// The module of an entry, which has the number of its file, before it is finished.
 pub fn module_on<'p, 'x>(
     alloc: Global,
-    call: &Call<'p, 'x>,
+    call: &EntryCall<'p, 'x>,
     hook: &dyn Hook,
     entry: ModuleId,
-) -> Result<Module, Unlinked>
+) -> Result<Module, EntryError>
     ensures made { IfOk result (λ made. (kept : Kept) (list : LoadList) →
-        IsReadOf (settings_of call.now.config.now) kept list call.now.program.now →
+        IsReadListOf (settings_of call.now.config.now) kept list call.now.program.now →
         IsFileOn kept list (name_of call.now.entry.now) entry → IsMergedFor
         (answered_by (may_give hook.now) (may_fail_hook hook.now)) call.now.config.now
         (program_of kept (settings_of call.now.config.now) entry) made) }
     ensures refused { IfErr result (λ unlinked. (kept : Kept) (list : LoadList) →
-        IsReadOf (settings_of call.now.config.now) kept list call.now.program.now →
+        IsReadListOf (settings_of call.now.config.now) kept list call.now.program.now →
         IsFileOn kept list (name_of call.now.entry.now) entry → IsRefusalOfProgram
         (answered_by (may_give hook.now) (may_fail_hook hook.now))
         (program_of kept (settings_of call.now.config.now) entry) unlinked) }

@@ -2,8 +2,8 @@
 
 ghost use Rattle.std.specs.Prelude.{◌≡◌, ◌<◌, ◌^◌, ◌++◌, ◌∷◌, [], false, length, nat_eq, OnOk, OnErr};
 ghost use Rattle.std.specs.List.{list_any};
-ghost use Rattle.bundle_link_index.specs.Numbered.{IsOnce};
-ghost use Rattle.bundle_link_reached.specs.Files.{numbers_of};
+ghost use Rattle.bundle_link_index.specs.Numbered.{HasNoDoubles};
+ghost use Rattle.bundle_link.specs.Files.{numbers_of};
 
 use bundle_tree_names::ModuleId;
 use bundle_tree_names::file_name::FileName;
@@ -15,15 +15,15 @@ use std::marker::Model;
 ///
 /// A file is found by its number, since strangers who choose the names of files can choose such that have one hash.
 #[derive(Debug, Drop)]
-pub struct Listed {
+pub struct NumberedFiles {
     files: Vec<(FileName, ModuleId)>,
     ids: IndexSet<ModuleId>,
 }
 
-impl Model for Listed {
+impl Model for NumberedFiles {
     ghost use Rattle.std.specs.Prelude.{◌≡◌, ℕ, List};
     ghost use Rattle.bundle_tree_names.specs.declared.file_name.FileName.{FileName};
-    ghost use Rattle.bundle_link_reached.specs.Files.{numbers_of};
+    ghost use Rattle.bundle_link.specs.Files.{numbers_of};
 
     ghost Value = { List (FileName × ℕ) };
 
@@ -32,12 +32,12 @@ impl Model for Listed {
     ghost invariant = { λ listed. listed.ids.keys ≡ numbers_of listed.files.items };
 }
 
-impl Listed {
+impl NumberedFiles {
     /// No files. It takes no memory.
-    pub(crate) fn new(alloc: Global) -> Listed
+    pub(crate) fn new(alloc: Global) -> NumberedFiles
         ensures { result ≡ [] }
     {
-        Listed {
+        NumberedFiles {
             files: Vec::new(alloc),
             ids: IndexSet::new(alloc),
         }
@@ -47,7 +47,7 @@ impl Listed {
     pub(crate) fn len(&self) -> usize
         ensures len { result ≡ length self.now }
         ensures small { result < 2 ^ 63 }
-        ensures once { IsOnce (numbers_of self.now) }
+        ensures once { HasNoDoubles (numbers_of self.now) }
     {
         self.ids.len()
     }

@@ -9,14 +9,15 @@ ghost use Rattle.bundle_rules.specs.Faults.{IsFaultless, IsFirstTreeFault, fault
 ghost use Rattle.bundle_rules.specs.Judging.{Asks, LoadsAll, requests_in};
 ghost use Rattle.bundle_rules.specs.Kept.{Kept, kept_file, kept_module, number_in};
 ghost use Rattle.bundle_rules.specs.Program.{Loaded};
-ghost use Rattle.bundler_kept.specs.Kept.{asked_of};
-ghost use Rattle.bundler_call.specs.Judged.{Ends, LeadsOn, asked_by};
-ghost use Rattle.bundler_call.specs.Kept.{kept_of, settings_of, AreRequested, IsKept, IsMet, IsRequested, StandsFor};
-ghost use Rattle.bundler_call.specs.Library.{GoesFurther, Keeps, MovesOn};
-ghost use Rattle.bundler_call.specs.Loading.{files_on, ids_on, AllLead, AreAsked, AreMet, AreNumbered, AreSound, Begins, IsNoted, IsPlaced, IsSound, LeadsTo};
+ghost use Rattle.bundler_call.specs.KeptFiles.{asked_of};
+ghost use Rattle.bundler_call.specs.Judged.{EndsJudging, LeadsOn, parties_asked};
+ghost use Rattle.bundler_call.specs.Kept.{kept_of, settings_of, AreRequested, IsKept, IsFileMet, IsRequested, LoadsAlike};
+ghost use Rattle.bundler_call.specs.Library.{GoesFurther, KeepsLibrary, MovesOn};
+ghost use Rattle.bundler_call.specs.Loading.{files_on, ids_on, AllLead, AreAsked, AreMet, AreFilesNumbered, AreFilesSound, BeginsList, AreRequestsNoted, GoesLast, IsFileSound, RequestLeads};
 
+use crate::Request;
 use crate::library::{Asking, Library};
-use crate::listed::Listed;
+use crate::listed::NumberedFiles;
 use bundle_link::tables::requests_of;
 use bundle_tree::load::Load;
 use bundle_tree::resolve::Resolve;
@@ -24,14 +25,13 @@ use bundle_tree_names::ModuleId;
 use bundle_tree_names::config::Config;
 use bundle_tree_names::error::Error;
 use bundle_tree_names::file_name::FileName;
-use bundler_kept::Request;
 use std::alloc::{AllocError, Global};
 
 /// Files with their numbers, in the order in which they were met, and for each that was worked on its requests, in their
 /// order, each with the number of the file to which it leads.
 #[derive(Debug, Drop)]
 pub struct LoadList {
-    pub files: Listed,
+    pub files: NumberedFiles,
     pub deps: Vec<Vec<(String, ModuleId)>>,
 }
 
@@ -42,7 +42,7 @@ impl LoadList {
         ensures deps { result.deps.items ≡ [] }
     {
         LoadList {
-            files: Listed::new(alloc),
+            files: NumberedFiles::new(alloc),
             deps: Vec::new(alloc),
         }
     }
@@ -50,13 +50,13 @@ impl LoadList {
     /// Puts a file with its number on the list, where it goes last unless it is there.
     pub(crate) fn place(&mut self, file: &FileName, id: ModuleId) -> Result<(), AllocError>
         requires { (kept : Kept) × (number_in kept (name_of file.now) ≡ Some id)
-            × AreNumbered kept self.old }
+            × AreFilesNumbered kept self.old }
         ensures placed { OnOk result
-            (IsPlaced (files_on self.old) (name_of file.now) (files_on self.new)) }
+            (GoesLast (files_on self.old) (name_of file.now) (files_on self.new)) }
         ensures numbered { (kept : Kept) →
             number_in kept (name_of file.now) ≡ Some id →
-            AreNumbered kept self.old →
-            OnOk result (AreNumbered kept self.new) }
+            AreFilesNumbered kept self.old →
+            OnOk result (AreFilesNumbered kept self.new) }
         ensures unchanged { OnErr result (files_on self.new ≡ files_on self.old) }
         ensures absent { OnErr result (¬ Contains (files_on self.old) (name_of file.now)) }
         ensures deps { self.new.deps ≡ self.old.deps }
@@ -72,7 +72,7 @@ impl LoadList {
     fn file_at(&self, place: usize) -> Result<Option<FileName>, AllocError>
         ensures file { IfOk result (λ file.
             option_map name_of file ≡ slice_get (files_on self.now) place) }
-        ensures once { (kept : Kept) → AreNumbered kept self.now → IsDistinct (files_on self.now) }
+        ensures once { (kept : Kept) → AreFilesNumbered kept self.now → IsDistinct (files_on self.now) }
     {
         // `len` says that no number stands twice.
         let _count = self.files.len();
@@ -102,25 +102,25 @@ pub(crate) fn load_all<L: Load + Drop, R: Resolve + Drop>(
     asking: Asking,
 ) -> Result<LoadList, Error>
     requires met { AreMet (kept_of library.old.kept) (files_on list) }
-    requires numbered { AreNumbered (kept_of library.old.kept) list }
+    requires numbered { AreFilesNumbered (kept_of library.old.kept) list }
     ensures grows { (entries : List Name) →
         GoesFurther L.may_load R.may_resolve (settings_of config.now) entries library.old
         library.new }
     ensures lent { asking ≡ Asking.Lent → library.new.loader ≡ library.old.loader }
-    ensures loaded { IfOk result (λ list. AreSound (kept_of library.new.kept) (files_on list)) }
-    ensures begins { IfOk result (λ made. Begins (files_on list) (files_on made)) }
+    ensures loaded { IfOk result (λ list. AreFilesSound (kept_of library.new.kept) (files_on list)) }
+    ensures begins { IfOk result (λ made. BeginsList (files_on list) (files_on made)) }
     ensures once { IfOk result (λ made. IsDistinct (files_on made)) }
     ensures numbered { IfOk result (λ made.
-        AreNumbered (kept_of library.old.kept) list →
-        AreNumbered (kept_of library.new.kept) made) }
+        AreFilesNumbered (kept_of library.old.kept) list →
+        AreFilesNumbered (kept_of library.new.kept) made) }
     ensures asked { IfOk result (λ made.
         list.deps.items ≡ [] →
-        AreNumbered (kept_of library.old.kept) list →
+        AreFilesNumbered (kept_of library.old.kept) list →
         AreAsked (settings_of config.now) (kept_of library.new.kept) made
         × (length made.deps.items ≡ length (files_on made))) }
-    ensures judged { Ends result (λ outcome.
+    ensures judged { EndsJudging result (λ outcome.
         LoadsAll
-        (asked_by L.may_load L.may_fail_load R.may_resolve R.may_fail_resolve library.old.loader
+        (parties_asked L.may_load L.may_fail_load R.may_resolve R.may_fail_resolve library.old.loader
         library.old.resolver)
         (settings_of config.now) (files_on list) 0 (kept_of library.old.kept) outcome
         (kept_of library.new.kept)) }
@@ -148,29 +148,29 @@ fn work_on<L: Load + Drop, R: Resolve + Drop>(
     asking: Asking,
 ) -> Result<(), Error>
     requires met { AreMet (kept_of library.old.kept) (files_on list.old) }
-    requires numbered { AreNumbered (kept_of library.old.kept) list.old }
-    requires listed { IsMet (kept_of library.old.kept) (name_of file.now) }
+    requires numbered { AreFilesNumbered (kept_of library.old.kept) list.old }
+    requires listed { IsFileMet (kept_of library.old.kept) (name_of file.now) }
     ensures grows { (entries : List Name) →
         GoesFurther L.may_load R.may_resolve (settings_of config.now) entries library.old
         library.new }
     ensures lent { asking ≡ Asking.Lent → library.new.loader ≡ library.old.loader }
     ensures stands { OnOk result
-        (StandsFor L.may_load L.may_fail_load library.old.loader library.new.loader
+        (LoadsAlike L.may_load L.may_fail_load library.old.loader library.new.loader
         (kept_of library.new.kept)) }
-    ensures loaded { OnOk result (IsSound (kept_of library.new.kept) (name_of file.now)) }
+    ensures loaded { OnOk result (IsFileSound (kept_of library.new.kept) (name_of file.now)) }
     ensures met { OnOk result (AreMet (kept_of library.new.kept) (files_on list.new)) }
-    ensures begins { OnOk result (Begins (files_on list.old) (files_on list.new)) }
+    ensures begins { OnOk result (BeginsList (files_on list.old) (files_on list.new)) }
     ensures numbered { OnOk result
-        (AreNumbered (kept_of library.old.kept) list.old →
-        AreNumbered (kept_of library.new.kept) list.new) }
+        (AreFilesNumbered (kept_of library.old.kept) list.old →
+        AreFilesNumbered (kept_of library.new.kept) list.new) }
     ensures asked { OnOk result
-        (AreNumbered (kept_of library.old.kept) list.old →
-        IsNoted (settings_of config.now) (kept_of library.new.kept) (name_of file.now) list.old
+        (AreFilesNumbered (kept_of library.old.kept) list.old →
+        AreRequestsNoted (settings_of config.now) (kept_of library.new.kept) (name_of file.now) list.old
         list.new) }
     ensures judged { (first : L) (place : ℕ) →
-        StandsFor L.may_load L.may_fail_load first library.old.loader (kept_of library.old.kept) →
+        LoadsAlike L.may_load L.may_fail_load first library.old.loader (kept_of library.old.kept) →
         slice_get (files_on list.old) place ≡ Some (name_of file.now) →
-        let parties = asked_by L.may_load L.may_fail_load R.may_resolve R.may_fail_resolve first library.old.resolver in
+        let parties = parties_asked L.may_load L.may_fail_load R.may_resolve R.may_fail_resolve first library.old.resolver in
         LeadsOn result
         (LoadsAll parties (settings_of config.now) (files_on list.old) place
         (kept_of library.old.kept))
@@ -195,26 +195,26 @@ fn ask_each<L: Load + Drop, R: Resolve + Drop>(
     specifiers: Vec<String>,
 ) -> Result<Vec<(String, ModuleId)>, Error>
     requires met { AreMet (kept_of library.old.kept) (files_on list.old) }
-    requires numbered { AreNumbered (kept_of library.old.kept) list.old }
+    requires numbered { AreFilesNumbered (kept_of library.old.kept) list.old }
     requires loaded { IsKept (kept_of library.old.kept) (name_of file.now) }
-    ensures keeps { Keeps library.old library.new }
+    ensures keeps { KeepsLibrary library.old library.new }
     ensures grows { (settings : Settings) (entries : List Name) →
         AreRequested settings (kept_of library.old.kept) (name_of file.now)
         (map string_bytes specifiers.items) →
         MovesOn L.may_load R.may_resolve settings entries library.old library.new }
     ensures met { OnOk result (AreMet (kept_of library.new.kept) (files_on list.new)) }
-    ensures begins { OnOk result (Begins (files_on list.old) (files_on list.new)) }
+    ensures begins { OnOk result (BeginsList (files_on list.old) (files_on list.new)) }
     ensures numbered { OnOk result
-        (AreNumbered (kept_of library.old.kept) list.old →
-        AreNumbered (kept_of library.new.kept) list.new) }
+        (AreFilesNumbered (kept_of library.old.kept) list.old →
+        AreFilesNumbered (kept_of library.new.kept) list.new) }
     ensures asked { IfOk result (λ deps.
         map (λ dep. string_bytes dep.0) deps.items ≡ map string_bytes specifiers.items) }
-    ensures leads { IfOk result (λ deps. AreNumbered (kept_of library.old.kept) list.old →
+    ensures leads { IfOk result (λ deps. AreFilesNumbered (kept_of library.old.kept) list.old →
         AllLead (kept_of library.new.kept) (ids_on list.new) (name_of file.now) deps.items) }
     ensures deps { list.new.deps ≡ list.old.deps }
-    ensures judged { Ends result (λ outcome.
+    ensures judged { EndsJudging result (λ outcome.
         Asks
-        (asked_by L.may_load L.may_fail_load R.may_resolve R.may_fail_resolve library.old.loader
+        (parties_asked L.may_load L.may_fail_load R.may_resolve R.may_fail_resolve library.old.loader
         library.old.resolver)
         (name_of file.now) (map string_bytes specifiers.items) (kept_of library.old.kept)
         (files_on list.old) outcome (kept_of library.new.kept) (files_on list.new)) }
@@ -236,26 +236,26 @@ fn id_of<L: Load + Drop, R: Resolve + Drop>(
     specifier: &String,
 ) -> Result<ModuleId, Error>
     requires met { AreMet (kept_of library.old.kept) (files_on list.old) }
-    requires numbered { AreNumbered (kept_of library.old.kept) list.old }
+    requires numbered { AreFilesNumbered (kept_of library.old.kept) list.old }
     requires loaded { IsKept (kept_of library.old.kept) (name_of file.now) }
-    ensures keeps { Keeps library.old library.new }
+    ensures keeps { KeepsLibrary library.old library.new }
     ensures grows { (settings : Settings) (entries : List Name) →
         IsRequested settings (kept_of library.old.kept)
         (record { file = name_of file.now; specifier = string_bytes specifier.now }) →
         MovesOn L.may_load R.may_resolve settings entries library.old library.new }
     ensures met { OnOk result (AreMet (kept_of library.new.kept) (files_on list.new)) }
-    ensures begins { OnOk result (Begins (files_on list.old) (files_on list.new)) }
+    ensures begins { OnOk result (BeginsList (files_on list.old) (files_on list.new)) }
     ensures numbered { OnOk result
-        (AreNumbered (kept_of library.old.kept) list.old →
-        AreNumbered (kept_of library.new.kept) list.new) }
+        (AreFilesNumbered (kept_of library.old.kept) list.old →
+        AreFilesNumbered (kept_of library.new.kept) list.new) }
     ensures leads { IfOk result (λ id.
-        AreNumbered (kept_of library.old.kept) list.old →
-        LeadsTo (kept_of library.new.kept) (ids_on list.new) (name_of file.now)
+        AreFilesNumbered (kept_of library.old.kept) list.old →
+        RequestLeads (kept_of library.new.kept) (ids_on list.new) (name_of file.now)
         (specifier.now, id)) }
     ensures deps { list.new.deps ≡ list.old.deps }
-    ensures judged { Ends result (λ outcome.
+    ensures judged { EndsJudging result (λ outcome.
         Asks
-        (asked_by L.may_load L.may_fail_load R.may_resolve R.may_fail_resolve library.old.loader
+        (parties_asked L.may_load L.may_fail_load R.may_resolve R.may_fail_resolve library.old.loader
         library.old.resolver)
         (name_of file.now) (string_bytes specifier.now ∷ []) (kept_of library.old.kept)
         (files_on list.old) outcome (kept_of library.new.kept) (files_on list.new)) }

@@ -6,16 +6,16 @@ ghost use Rattle.bundle_rules.specs.Kept as rules;
 ghost use Rattle.bundle_rules.specs.Kept.{number_in};
 ghost use Rattle.bundler_entry.specs.Source.{AreSourcesOf, IsSourceOf};
 ghost use Rattle.bundler_call.specs.Kept.{kept_of, settings_of};
-ghost use Rattle.bundler_call.specs.Linking.{IsLoaded, IsReadOf};
-ghost use Rattle.bundler_call.specs.Loading.{files_on, ids_on, AreNumbered, AreSound, IsSound};
+ghost use Rattle.bundler_call.specs.Linking.{IsListLoaded, IsReadListOf};
+ghost use Rattle.bundler_call.specs.Loading.{files_on, ids_on, AreFilesNumbered, AreFilesSound, IsFileSound};
 
+use crate::Kept;
 use crate::library::module_in;
 use crate::load::LoadList;
 use bundle_tree::load::ModuleData;
 use bundle_tree_names::config::Config;
 use bundle_tree_names::file_name::FileName;
-use bundler_entry::{Program, Source, program_of, source_of};
-use bundler_kept::Kept;
+use bundler_entry::{ReadFile, ReadFiles, program_of, source_of};
 use std::alloc::{AllocError, Global};
 
 /// Reads the files of a load list, which are kept and not at fault by themselves.
@@ -24,11 +24,11 @@ pub fn program_on<'x>(
     alloc: Global,
     list: &'x LoadList,
     config: &Config,
-) -> Result<Program<'x>, AllocError>
-    requires { AreSound (kept_of kept.now) (files_on list.now) }
+) -> Result<ReadFiles<'x>, AllocError>
+    requires { AreFilesSound (kept_of kept.now) (files_on list.now) }
     ensures { IfOk result (λ program.
-        IsLoaded (settings_of config.now) (kept_of kept.entry.now) list.entry.now →
-        IsReadOf (settings_of config.now) (kept_of kept.entry.now) list.entry.now program) }
+        IsListLoaded (settings_of config.now) (kept_of kept.entry.now) list.entry.now →
+        IsReadListOf (settings_of config.now) (kept_of kept.entry.now) list.entry.now program) }
 {
     let sources = sources_on(kept, alloc, list, config)?;
     program_of(alloc, list.files.as_slice(), list.deps.as_slice(), sources)
@@ -40,11 +40,11 @@ fn sources_on<'x>(
     alloc: Global,
     list: &'x LoadList,
     config: &Config,
-) -> Result<Vec<Source<'x>>, AllocError>
-    requires { AreSound (kept_of kept.now) (files_on list.now) }
+) -> Result<Vec<ReadFile<'x>>, AllocError>
+    requires { AreFilesSound (kept_of kept.now) (files_on list.now) }
     ensures { IfOk result (λ sources.
         (entry : ℕ) →
-        AreNumbered (kept_of kept.entry.now) list.entry.now →
+        AreFilesNumbered (kept_of kept.entry.now) list.entry.now →
         AreSourcesOf
         (rules.program_of (kept_of kept.entry.now) (settings_of config.now) entry)
         (ids_on list.entry.now) sources.items) }
@@ -62,8 +62,8 @@ fn kept_source<'x>(
     alloc: Global,
     file: &'x FileName,
     config: &Config,
-) -> Result<Source<'x>, AllocError>
-    requires { IsSound (kept_of kept.now) (name_of file.now) }
+) -> Result<ReadFile<'x>, AllocError>
+    requires { IsFileSound (kept_of kept.now) (name_of file.now) }
     ensures { IfOk result (λ source.
         (entry m : ℕ) →
         number_in (kept_of kept.entry.now) (name_of file.entry.now) ≡ Some m →

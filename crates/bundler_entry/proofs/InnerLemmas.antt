@@ -3,25 +3,26 @@ use Rattle.std.proofs.Common.{◌≡◌, ◌⊎◌, inl, inr, ℕ, zero, suc, �
 use Rattle.std.specs.Prelude.{slice_get, unwrap_or}
 use Rattle.std.proofs.lemmas.Bool.{and_parts, false≢true, or_cases, true≢false}
 use Rattle.std.proofs.lemmas.Option.{none-some, same_Some, slice_get-map}
-use Rattle.bundle_tree_leaf.specs.declared.kind.VarDeclKind.TheVariants as v
-use Rattle.bundle_tree_piece.specs.declared.piece.Role.{Role}
-use Rattle.bundle_tree_piece.specs.declared.piece.Role.TheVariants as r
-use Rattle.bundle_tree_piece.specs.Item as h
-use Rattle.bundle_tree_piece.specs.Item.{Item, Head}
+use Rattle.bundle_syntax.specs.declared.kind.VarDeclKind.TheVariants as v
+use Rattle.bundle_syntax.specs.declared.piece.Role.{Role}
+use Rattle.bundle_syntax.specs.declared.piece.Role.TheVariants as r
+use Rattle.bundle_syntax.specs.Item as h
+use Rattle.bundle_syntax.specs.Item.{Item, Head}
 use Rattle.bundle_rules.specs.Counts.{has_lexical_head, makes_scope, scope_count_from}
 use Rattle.bundle_rules.specs.Declarations.{BySymbol, ByLoop, Declared, Name, Way, declaration_of, declared, declared_by, heads_loop, is_pattern, name_of, names_agree, nameless_default, way_in, way_of, way_of_declarator, way_of_variable, wrapper_parameter}
 use Rattle.bundle_rules.specs.Denotes.{Bound, Denoted, Global, bound_in, denoted_as, denoted_in, denoted_of, own_or_found}
 use Rattle.bundle_rules.specs.Homes.{binds, declares, from_taker, has_implicit_arguments, home_beside, home_of, is_arguments, is_declared_in, is_function, joins_parameter, nearest, parameters_of, taker, takes as takes_name_of}
 use Rattle.bundle_rules.specs.Places.{Around, Occurrence, Spot, in_field, occurrence_of, occurrences, occurrences_from, outer_path, past, start, is_binding}
 use Rattle.bundle_rules.specs.Scopes.{Es, Inner, Loop, Scope, ScopeKind, Top, Wrapper, kind_of_scope, same_scope, scope_at, scope_order, scopes_around}
-use Rattle.bundle_scope_names.proofs.Lists.{Each, find-passes, list_any-found}
-use Rattle.bundle_scope_names.proofs.HomesLemmas.{same_order}
+use Rattle.bundle_scope_names.proofs.HomesLemmas.{Each, find-passes, list_any-found, same_order}
 use Rattle.bundle_scope_names.proofs.TreeLemmas.{each-cons, each-declared}
-use Rattle.bundle_scope_renamed.specs.fit.Sorts.{AClass, AFunction, ALocal, AModule, Count, Many, One, Optional, Places, Slot, Sort, names_in, slot, slots, takes, takes_name}
-use Rattle.bundle_scope_renamed.specs.fit.Fits as fits
-use Rattle.bundle_scope_renamed.specs.fit.Fits.{AreFit, IsFit, a_hole, a_name, a_node, after, no_more, over}
-use Rattle.bundle_scope_renamed.specs.fit.Seen.{around, each_slot}
-use Rattle.bundle_scope_renamed.proofs.fit.Seeing.{AreBeside, after_slot, field_twice}
+use Rattle.bundle_scope_names.specs.fit.Sorts.{AClass, AFunction, ALocal, AModule, NodeCount, Many, One, Optional, Places, NodeSlot, NodeSort, names_of_sort, slot, slots, takes_head, takes_name}
+use Rattle.bundle_scope_names.specs.fit.Fits as fits
+use Rattle.bundle_scope_names.specs.fit.Fits.{AreFit, IsFit, a_hole, a_name, a_node, fields_after, no_more, over}
+use Rattle.bundle_scope_names.specs.fit.Seen.{around_node, each_slot}
+use Rattle.bundle_scope_names.proofs.fit.Keys.{AreBeside, after_slot, field_twice, outer_in as outer-field}
+use Rattle.bundle_order_graph.proofs.OrderLemmas.{not-true}
+use Rattle.bundle_merge_theory.proofs.own.Fit.{local_head as none-local, no_function_names as no-function, no_class_names as no-class}
 
 -- Nodes that make no scope.
 
@@ -69,26 +70,22 @@ quiet-beside s t b quiet =
 
 -- A function expression or a class has a function or a class in it.
 
-makes-function : (head : Head) → takes head AFunction ≡ true → (outer : List Around)
+makes-function : (head : Head) → takes_head head AFunction ≡ true → (outer : List Around)
     (rest : List Item) → makes_scope head outer rest ≡ true
 makes-function (h.Function is_generator is_async) is outer rest = refl
 makes-function _ is outer rest = absurd (false≢true is)
 
-makes-class : (head : Head) → takes head AClass ≡ true → (outer : List Around)
+makes-class : (head : Head) → takes_head head AClass ≡ true → (outer : List Around)
     (rest : List Item) → makes_scope head outer rest ≡ true
 makes-class h.Class is outer rest = refl
 makes-class _ is outer rest = absurd (false≢true is)
-
-none-local : (head : Head) → takes head ALocal ≡ false
-none-local h.Module = refl
-none-local _ = refl
 
 counts-if : (b : Bool) (more : ℕ) → b ≡ true → 0 < cond b 1 0 + more
 counts-if true more is = omega arith
 counts-if false more is = absurd (false≢true is)
 
-module _ (sort : Sort) (local : (role : Role) → takes_name role sort ≡ false)
-    (makes : (head : Head) → takes head sort ≡ true → (outer : List Around) (rest : List Item) →
+module _ (sort : NodeSort) (local : (role : Role) → takes_name role sort ≡ false)
+    (makes : (head : Head) → takes_head head sort ≡ true → (outer : List Around) (rest : List Item) →
     makes_scope head outer rest ≡ true) where
   one-inside : {items : List Item} → AreFit (slot 1 One sort ∷ []) items → (s : Spot)
       (rest : List Item) → 0 < scope_count_from s (items ++ rest)
@@ -105,16 +102,6 @@ module _ (sort : Sort) (local : (role : Role) → takes_name role sort ≡ false
       let more = one-inside fit (past s (h.Ident 0 x ctxt role)) rest in omega (arith, more)
   some-inside (a_node {head = head} it in_it fit) s rest =
       absurd (false≢true (sym (none-local head) ∙ it))
-
-no-function : (role : Role) → takes_name role AFunction ≡ false
-no-function r.Binding = refl
-no-function r.Reference = refl
-no-function r.Word = refl
-
-no-class : (role : Role) → takes_name role AClass ≡ false
-no-class r.Binding = refl
-no-class r.Reference = refl
-no-class r.Word = refl
 
 -- where no scope begins, each node is quiet
 quiet-node : (head : Head) (names : Role) (outer : List Around) (s : Spot)
@@ -143,7 +130,7 @@ quiet-node _ names outer s inside rest fit none zero_of = refl
 -- Heads of loops.
 
 -- no field that is left is the head of a loop
-abbrev no_heads : List Around → List Slot → Bool
+abbrev no_heads : List Around → List NodeSlot → Bool
 no_heads path list = each_slot (λ number sort. not (heads_loop (in_field number path))) list
 
 -- whether the first item is a declaration that is the head of the loop around it
@@ -151,18 +138,18 @@ abbrev heads_first : List Around → List Item → Bool
 heads_first [] items = false
 heads_first (top ∷ outer) items = has_lexical_head top.head items
 
-abbrev is_single : Count → Bool
+abbrev is_single : NodeCount → Bool
 is_single One = true
 is_single Optional = true
 is_single _ = false
 
 -- behind the first of these fields, which holds one at most, none is the head of a loop
-abbrev heads_once : List Around → List Slot → Bool
+abbrev heads_once : List Around → List NodeSlot → Bool
 heads_once path [] = true
 heads_once path (slot number count sort ∷ more) = is_single count && no_heads path more
 
 -- in these fields stands no declaration that is the head of a loop
-abbrev NoHead : List Around → List Slot → List Item → Type 0
+abbrev NoHead : List Around → List NodeSlot → List Item → Type 0
 NoHead path list items =
     (no_heads path list ≡ true)
     ⊎ ((heads_first path items ≡ false) × (heads_once path list ≡ true))
@@ -170,7 +157,7 @@ NoHead path list items =
 -- at the beginning of a node that makes no scope
 no-head : (head : Head) (names : Role) (begins : ℕ) (outer other : List Around)
     (items : List Item) → makes_scope head other items ≡ false →
-    NoHead (around head begins 0 ∷ outer) (slots head names) items
+    NoHead (around_node head begins 0 ∷ outer) (slots head names) items
 no-head h.ForStmt names begins outer other items none = inr (none, refl)
 no-head h.ForInStmt names begins outer other items none = inr (none, refl)
 no-head (h.ForOfStmt is_await) names begins outer other items none = inr (none, refl)
@@ -178,22 +165,22 @@ no-head (h.NewExpr true) names begins outer other items none = inl refl
 no-head (h.NewExpr false) names begins outer other items none = inl refl
 no-head _ names begins outer other items none = inl refl
 
-no-head-over : (path : List Around) (n : ℕ) (c : Count) (k : Sort) (more : List Slot)
+no-head-over : (path : List Around) (n : ℕ) (c : NodeCount) (k : NodeSort) (more : List NodeSlot)
     (items other : List Item) → NoHead path (slot n c k ∷ more) items → NoHead path more other
 no-head-over path n c k more items other (inl none) =
     inl (and_parts (not (heads_loop (in_field n path))) (no_heads path more) none).1
 no-head-over path n c k more items other (inr its) =
     inl (and_parts (is_single c) (no_heads path more) its.1).1
 
-no-head-hole : (path : List Around) (n : ℕ) (k : Sort) (more : List Slot)
+no-head-hole : (path : List Around) (n : ℕ) (k : NodeSort) (more : List NodeSlot)
     (items other : List Item) → NoHead path (slot n Places k ∷ more) items →
     NoHead path (slot n Places k ∷ more) other
 no-head-hole path n k more items other (inl none) = inl none
 no-head-hole path n k more items other (inr its) = absurd (false≢true its.1)
 
-none-after : (path : List Around) (n : ℕ) (c : Count) (k : Sort) (more : List Slot)
+none-after : (path : List Around) (n : ℕ) (c : NodeCount) (k : NodeSort) (more : List NodeSlot)
     (items : List Item) → NoHead path (slot n c k ∷ more) items →
-    no_heads path (after n c k more) ≡ true
+    no_heads path (fields_after n c k more) ≡ true
 none-after path n c k more items (inl none) =
     after_slot (λ number sort. not (heads_loop (in_field number path))) n c k more none
 none-after path n One k more items (inr its) = its.1
@@ -205,10 +192,6 @@ none-after path n Places k more items (inr its) = absurd (false≢true its.1)
 abbrev is_loop_way : Option Way → Bool
 is_loop_way (Some ByLoop) = true
 is_loop_way _ = false
-
-not-true : (b : Bool) → not b ≡ true → b ≡ false
-not-true true e = absurd (false≢true e)
-not-true false e = refl
 
 -- a declaration with such fields around it is none
 lexical-way : (path : List Around) (n : ℕ) (kind : _) (meta : _) (rest : List Item) →
@@ -230,7 +213,7 @@ head-way : (head : Head) (path : List Around) (n : ℕ) (rest : List Item) →
 head-way (h.VarDecl kind meta) path n rest either e = lexical-way path n kind meta rest either e
 head-way _ path n rest either e = none-some ByLoop e
 
-here-way : (head : Head) (path : List Around) (n : ℕ) (c : Count) (k : Sort) (more : List Slot)
+here-way : (head : Head) (path : List Around) (n : ℕ) (c : NodeCount) (k : NodeSort) (more : List NodeSlot)
     (rest : List Item) → NoHead path (slot n c k ∷ more) (h.Open n head ∷ rest) →
     way_of_variable head (in_field n path) ≡ Some ByLoop → ⊥
 here-way head path n c k more rest (inl none) =
@@ -253,13 +236,8 @@ no-more false more e = omega (arith, e)
 plus-zero : (n : ℕ) → 0 + n ≡ 0 → n ≡ 0
 plus-zero n e = omega (arith, e)
 
-outer-field : (field : ℕ) (path : List Around) →
-    outer_path (in_field field path) ≡ outer_path path
-outer-field field [] = refl
-outer-field field (top ∷ outer) = refl
-
-same-tests : (test other : ℕ → Sort → Bool) →
-    ((number : ℕ) (sort : Sort) → test number sort ≡ other number sort) → (list : List Slot) →
+same-tests : (test other : ℕ → NodeSort → Bool) →
+    ((number : ℕ) (sort : NodeSort) → test number sort ≡ other number sort) → (list : List NodeSlot) →
     each_slot test list ≡ each_slot other list
 same-tests test other same [] = refl
 same-tests test other same (slot number count sort ∷ more) =
@@ -280,7 +258,7 @@ Follows s rest =
     (t : Spot) → AreBeside s t → scope_count_from t rest ≡ 0 →
     Each IsQuiet (occurrences_from t rest)
 
-walk : {list : List Slot} {items : List Item} → AreFit list items → (s : Spot) →
+walk : {list : List NodeSlot} {items : List Item} → AreFit list items → (s : Spot) →
     QuietPath s.path → (rest : List Item) → NoHead s.path list (items ++ rest) →
     scope_count_from s (items ++ rest) ≡ 0 → Follows s rest →
     Each IsQuiet (occurrences_from s (items ++ rest))
@@ -309,7 +287,7 @@ walk (a_node {number = n} {count = c} {sort = k} {more = more} {head = hd} {insi
     {rest = behind} it in_it fit) s quiet rest none zero_of then =
     subst (λ items. Each IsQuiet (occurrences_from inner items)) (sym same)
     (walk in_it inner quiet_inner tail
-    (no-head hd (names_in k) s.place (in_field n s.path) s.path (ins ++ tail) makes) inside_zero
+    (no-head hd (names_of_sort k) s.place (in_field n s.path) s.path (ins ++ tail) makes) inside_zero
     (λ t b zero_t. walk fit (past t h.Close)
     (quiet-outer t.path (quiet-beside inner t b quiet_inner)) rest (inl (passes t b))
     (plus-zero (scope_count_from (past t h.Close) (behind ++ rest)) zero_t)
@@ -336,7 +314,7 @@ walk (a_node {number = n} {count = c} {sort = k} {more = more} {head = hd} {insi
 
     quiet_inner : QuietPath inner.path
     quiet_inner = (
-      quiet-node hd (names_in k) s.path inner ins tail in_it makes inside_zero,
+      quiet-node hd (names_of_sort k) s.path inner ins tail in_it makes inside_zero,
       here-way hd s.path n c k more ((ins ++ h.Close ∷ behind) ++ rest) none,
       quiet-field n s.path quiet,
     )
@@ -346,12 +324,12 @@ walk (a_node {number = n} {count = c} {sort = k} {more = more} {head = hd} {insi
     fields t b field = ap (in_field field) b.outer ∙ field_twice field n s.path
 
     passes : (t : Spot) → AreBeside inner t →
-        no_heads (outer_path t.path) (after n c k more) ≡ true
+        no_heads (outer_path t.path) (fields_after n c k more) ≡ true
     passes t b =
         same-tests (λ number sort. not (heads_loop (in_field number (outer_path t.path))))
         (λ number sort. not (heads_loop (in_field number s.path)))
         (λ number sort. ap (λ path. not (heads_loop path)) (fields t b number))
-        (after n c k more)
+        (fields_after n c k more)
         ∙ none-after s.path n c k more
         (h.Open n hd ∷ ((ins ++ h.Close ∷ behind) ++ rest)) none
 

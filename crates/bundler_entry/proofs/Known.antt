@@ -1,43 +1,35 @@
 -- What is known of the program of an entry that is linked, of the same program by the places of its
 -- modules, and what is linked and planned of that.
-use Rattle.std.proofs.Common.{◌≡◌, ℕ, ◌<◌, Bool, zero, List, Option, Some, length, map, refl, sym, ap, ◌∙◌}
+use Rattle.std.proofs.Common.{◌≡◌, ℕ, ◌<◌, Bool, List, Option, Some, length, map, refl, sym, ap, ◌∙◌}
 use Rattle.std.specs.Prelude.{option_map, slice_get}
 use Rattle.std.specs.Option.{option_and_then}
 use Rattle.std.proofs.lemmas.Option.{same_Some, slice_get-map}
 use Rattle.bundle_tree_names.specs.declared.file_name.FileName.{FileName}
-use Rattle.bundle_tree_piece.specs.Item.{Item}
 use Rattle.bundle_order_graph.specs.Modules.{Modules}
 use Rattle.bundle_order_sort.specs.Plan.{IsPlanOf}
 use Rattle.bundle_rules.specs.Entries.{has_import_meta}
 use Rattle.bundle_rules.specs.Statements.{own_statements}
 use Rattle.bundle_rules.specs.Program.{Program, tree_of, IsReached}
 use Rattle.bundle_rules.specs.Bundle.{Hooks}
-use Rattle.bundle_rules.specs.Kept.{local_context}
-use Rattle.bundle_link_reached.specs.Files.{number_of, numbers_of}
-use Rattle.bundle_link_reached.proofs.NumberLemmas.{got, held}
-use Rattle.bundle_merge_meaning.specs.joined.Joined.{joined}
-use Rattle.bundle_merge_whole.specs.planned.Blocks.{block_of}
-use Rattle.bundle_merge_whole.specs.planned.Decided.{Decided, numbers_from, plan_of}
-use Rattle.bundle_merge_whole.specs.planned.Placed.{id_at}
-use Rattle.bundle_merge_whole.specs.made.Given.{Answer, Contexts, TopOf}
-use Rattle.bundle_merge_whole.specs.made.Made.{AreMade}
-use Rattle.bundle_merge_whole.specs.made.Alone.{TellApart}
-use Rattle.bundle_merge_whole.specs.moved.Renumbered.{cause_at}
-use Rattle.bundle_merge_whole.specs.sound.Known.{AreKnown, IsByPlaces}
-use Rattle.bundle_merge_whole.specs.sound.Decided.{AreLinkedBy, AreTold, decided_by}
-use Rattle.bundle_merge_whole.proofs.finished.Bundles.{IsMergedRight}
-use Rattle.bundle_merge_whole.proofs.moved.Owed.{AreMoved}
-use Rattle.bundle_merge_whole.proofs.together.Known.{known-right}
-use Rattle.bundle_merge_whole.proofs.sound.Decided.{linked-by}
-use Rattle.bundle_merge_whole.proofs.sound.Noted.{graph-noted, leads-all}
+use Rattle.bundle_link.specs.Files.{file_number, numbers_of}
+use Rattle.bundle_link.proofs.NumberLemmas.{held}
+use Rattle.bundle_link_index.proofs.ProgramLemmas.{got}
+use Rattle.bundle_merge_theory.specs.planned.Blocks.{block_of}
+use Rattle.bundle_merge_theory.specs.planned.Decided.{Decided}
+use Rattle.bundle_merge_theory.specs.made.Given.{HookAnswer, BundleContexts}
+use Rattle.bundle_merge_theory.specs.sound.Known.{AreKnown, IsByPlaces}
+use Rattle.bundle_merge_theory.specs.sound.Decided.{AreTablesLinked, AreTablesTold, decided_by}
+use Rattle.bundle_merge_theory.proofs.moved.Owed.{AreMoved}
+use Rattle.bundle_merge_theory.proofs.sound.Decided.{linked-by}
+use Rattle.bundle_merge_theory.proofs.sound.Sound.{graph-noted, leads-all}
 use Rattle.bundler_entry.specs.Linked.{IsCallOf, IsFileAt, IsLinkedEntry, ids_of, source_in}
 use Rattle.bundler_entry.specs.Source.{IsSourceOf}
-use Rattle.bundler_entry.specs.declared.call.Call.{Call}
-use Rattle.bundler_entry.specs.declared.linked.Linked.{Linked}
-use Rattle.bundler_entry.specs.declared.source.Source.{Source}
+use Rattle.bundler_entry.specs.declared.call.EntryCall.{EntryCall}
+use Rattle.bundler_entry.specs.declared.linked.LinkedEntry.{LinkedEntry}
+use Rattle.bundler_entry.specs.declared.source.ReadFile.{ReadFile}
 use Rattle.bundler_entry.proofs.LinkedLemmas.{place_of, source_of}
 
-module _ (p : Program) (entry : ℕ) (call : Call) (w : IsCallOf p entry call) (linked : Linked) (l : IsLinkedEntry p call linked) where
+module _ (p : Program) (entry : ℕ) (call : EntryCall) (w : IsCallOf p entry call) (linked : LinkedEntry) (l : IsLinkedEntry p call linked) where
   -- the modules in the order of the list, their requests, and the program by their places
   abbrev pub ids : List ℕ
   ids = linked.reached.list.items
@@ -49,7 +41,7 @@ module _ (p : Program) (entry : ℕ) (call : Call) (w : IsCallOf p entry call) (
   by_place = l.links.places
 
   -- what was read of a reached module
-  its-source : (m : ℕ) → IsReached p m → (source : Source) × IsSourceOf p m source
+  its-source : (m : ℕ) → IsReached p m → (source : ReadFile) × IsSourceOf p m source
   its-source m reached =
       let k = got ids m ((l.reached.reached m).1 reached) in
       let place = place_of p entry call w linked.reached l.reached k.0 m k.1 in
@@ -57,7 +49,7 @@ module _ (p : Program) (entry : ℕ) (call : Call) (w : IsCallOf p entry call) (
       (source.0, source.2)
 
   -- something was read of the module at each place of the list, which is that of the second program
-  pub source-there : (k m : ℕ) → slice_get ids k ≡ Some m → (source : Source)
+  pub source-there : (k m : ℕ) → slice_get ids k ≡ Some m → (source : ReadFile)
       × (source_in call linked.reached k ≡ Some source) × IsSourceOf by_place k source
   source-there k m at =
       let place = place_of p entry call w linked.reached l.reached k m at in
@@ -74,7 +66,7 @@ module _ (p : Program) (entry : ℕ) (call : Call) (w : IsCallOf p entry call) (
       let same : its.0 ≡ place.0 = same_Some its.0 place.0 (sym its.1 ∙ place.1) in
       let files = call.program.now.files.files.now in
       same_Some file.1 m
-      (sym (slice_get-map number_of files its.0 ∙ ap (option_map number_of) its.2)
+      (sym (slice_get-map file_number files its.0 ∙ ap (option_map file_number) its.2)
       ∙ ap (slice_get (numbers_of files)) same
       ∙ ap (λ (numbers : List ℕ). slice_get numbers place.0) (sym w.program.files.ids)
       ∙ place.2)
@@ -114,14 +106,14 @@ module _ (p : Program) (entry : ℕ) (call : Call) (w : IsCallOf p entry call) (
 
   -- they are linked, whatever tells which of them have an `import.meta`, and how many statements of
   -- its own each has
-  pub are-linked : (meta : ℕ → Bool) (count : ℕ → ℕ) → AreTold by_place (length ids) meta count →
-      AreLinkedBy by_place (length ids) linked.linking meta count
+  pub are-linked : (meta : ℕ → Bool) (count : ℕ → ℕ) → AreTablesTold by_place (length ids) meta count →
+      AreTablesLinked by_place (length ids) linked.linking meta count
   are-linked meta count told =
       linked-by p by_place ids graph are-places linked.linking meta count l.links.linked
       l.links.handed l.links.modules told
 
   -- which is so of what their trees say
-  pub are-told : AreTold by_place (length ids) (λ k. has_import_meta (tree_of by_place k))
+  pub are-told : AreTablesTold by_place (length ids) (λ k. has_import_meta (tree_of by_place k))
       (λ k. length (own_statements (tree_of by_place k)))
   are-told = record { meta_told = λ k below. refl; counted = λ k below. refl }
 
@@ -130,17 +122,7 @@ module _ (p : Program) (entry : ℕ) (call : Call) (w : IsCallOf p entry call) (
   is-planned = l.planned
 
   -- what is made of the modules by their places, as they are linked and planned, is merged right
-  module _ (meta : ℕ → Bool) (count : ℕ → ℕ) (told : AreTold by_place (length ids) meta count) (hooks : Hooks) (context : Contexts) (answers : ℕ → Option Answer) where
+  module _ (meta : ℕ → Bool) (count : ℕ → ℕ) (told : AreTablesTold by_place (length ids) meta count) (hooks : Hooks) (context : BundleContexts) (answers : ℕ → Option HookAnswer) where
     abbrev pub decided : Decided
     decided =
         decided_by linked.linking meta count (length ids) (map block_of linked.plan.blocks.items)
-
-    pub made-right : (orders : List (List ℕ)) (items : List (List Item)) →
-        AreMade by_place hooks (numbers_from zero (length ids)) context answers decided orders
-        items → TellApart by_place answers context →
-        ((k : ℕ) → IsReached by_place k → context (TopOf k) ≡ local_context (id_at ids k)) →
-        IsMergedRight p hooks (map (cause_at ids) (plan_of decided orders)) (joined items)
-    made-right orders items made apart locals =
-        known-right p by_place ids graph are-places are-known are-moved linked.linking meta count
-        (are-linked meta count told) linked.plan l.planned hooks context answers orders items made
-        apart locals

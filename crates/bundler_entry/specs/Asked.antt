@@ -5,28 +5,32 @@ use Rattle.bundle_tree_ast.specs.declared.expr.Expr.{Expr}
 use Rattle.bundle_tree_ast.specs.declared.prop.KeyValueProp.{KeyValueProp}
 use Rattle.bundle_tree_listed.specs.Tree.{key_value_prop_items}
 use Rattle.bundle_tree_names.specs.FileName.{Name}
-use Rattle.bundle_tree_piece.specs.Item.{Item}
+use Rattle.bundle_syntax.specs.Item.{Item}
 use Rattle.bundle_rules.specs.Entries.{has_import_meta}
 use Rattle.bundle_rules.specs.Faults.{Fault}
 use Rattle.bundle_rules.specs.Bundle.{AreFaultless}
 use Rattle.bundle_rules.specs.Cleared.{cleared}
 use Rattle.bundle_rules.specs.Program.{Loaded, Program, file_of, module_of, tree_of, IsReached}
 use Rattle.bundler_entry.specs.Hook.{IsAnswered, IsAskedFault, IsRightAnswer}
-use Rattle.bundler_entry.specs.declared.entry.Answer.{Answer}
+use Rattle.bundler_entry.specs.declared.entry.MetaAnswer.{MetaAnswer}
 
 -- the hook may answer without a fault for module m of a program
-pub record IsAnsweredFor (may_give : Name → Bool → List (KeyValueProp Expr) → Type 0) (p : Program) (m : ℕ) : Type 0 where
+pub record IsAnsweredFor (may_give : Name → Bool → List (KeyValueProp Expr) → Type 0) (p : Program)
+    (m : ℕ) : Type 0 where
   pub loaded : Loaded
   pub there : module_of p m ≡ Some loaded
   pub answer : List Item
   pub right : IsAnswered may_give loaded.file_name (m == p.entry) p.settings.iife answer
 
 -- it may for each module before place i of the list that has `import.meta`
-abbrev pub AreAnsweredBefore : (Name → Bool → List (KeyValueProp Expr) → Type 0) → Program → List ℕ → ℕ → Type 0
-AreAnsweredBefore may_give p list i = (j m : ℕ) → j < i → slice_get list j ≡ Some m → IsTrue (has_import_meta (tree_of p m)) → IsAnsweredFor may_give p m
+abbrev pub AreAnsweredBefore : (Name → Bool → List (KeyValueProp Expr) → Type 0) → Program →
+    List ℕ → ℕ → Type 0
+AreAnsweredBefore may_give p list i = (j m : ℕ) → j < i → slice_get list j ≡ Some m →
+    IsTrue (has_import_meta (tree_of p m)) → IsAnsweredFor may_give p m
 
 -- the first module at which what the hook is asked for has a fault
-pub record IsRefusedAt (may_give : Name → Bool → List (KeyValueProp Expr) → Type 0) (may_fail : Name → Bool → Type 0) (p : Program) (list : List ℕ) (fault : Fault) : Type 0 where
+pub record IsRefusedAt (may_give : Name → Bool → List (KeyValueProp Expr) → Type 0)
+    (may_fail : Name → Bool → Type 0) (p : Program) (list : List ℕ) (fault : Fault) : Type 0 where
   pub i : ℕ
   pub m : ℕ
   pub file : Name
@@ -47,7 +51,8 @@ pub record IsAskedModule (p : Program) (m : ℕ) (file given : Name) : Type 0 wh
   pub asked : IsTrue (has_import_meta (tree_of p m))
 
 -- what the hook is asked for module m has a fault
-pub record IsRefusedFor (may_give : Name → Bool → List (KeyValueProp Expr) → Type 0) (may_fail : Name → Bool → Type 0) (p : Program) (m : ℕ) (fault : Fault) : Type 0 where
+pub record IsRefusedFor (may_give : Name → Bool → List (KeyValueProp Expr) → Type 0)
+    (may_fail : Name → Bool → Type 0) (p : Program) (m : ℕ) (fault : Fault) : Type 0 where
   pub file : Name
   pub given : Name
   pub its : IsAskedModule p m file given
@@ -55,10 +60,10 @@ pub record IsRefusedFor (may_give : Name → Bool → List (KeyValueProp Expr) �
 
 -- what the hook answered for module m of a program: nothing where it has no `import.meta`, and else
 -- properties that it may give, without a fault
-abbrev pub IsAnswerOf : (Name → Bool → List (KeyValueProp Expr) → Type 0) → Program → ℕ →
+abbrev pub IsHookAnswer : (Name → Bool → List (KeyValueProp Expr) → Type 0) → Program → ℕ →
     Option (List (KeyValueProp Expr)) → Type 0
-IsAnswerOf may_give p m None = has_import_meta (tree_of p m) ≡ false
-IsAnswerOf may_give p m (Some given) =
+IsHookAnswer may_give p m None = has_import_meta (tree_of p m) ≡ false
+IsHookAnswer may_give p m (Some given) =
     IsTrue (has_import_meta (tree_of p m)) × ((loaded : Loaded) × (module_of p m ≡ Some loaded)
     × may_give loaded.file_name (m == p.entry) given
     × IsRightAnswer p.settings.iife (flat_map (key_value_prop_items 0) given))
@@ -66,19 +71,19 @@ IsAnswerOf may_give p m (Some given) =
 -- the answers for the modules before place i of the list: each is of one of them, and each of them
 -- that has an `import.meta` has one
 pub record AreAnswersBefore (may_give : Name → Bool → List (KeyValueProp Expr) → Type 0)
-    (p : Program) (list : List ℕ) (i : ℕ) (answers : List Answer) : Type 0 where
-  pub each : (answer : Answer) → Contains answers answer →
-      (answer.«module» < i) × ((m : ℕ) × (slice_get list answer.«module» ≡ Some m)
-      × IsAnswerOf may_give p m (Some answer.properties.items))
+    (p : Program) (list : List ℕ) (i : ℕ) (answers : List MetaAnswer) : Type 0 where
+  pub each : (answer : MetaAnswer) → Contains answers answer →
+      (answer.which < i) × ((m : ℕ) × (slice_get list answer.which ≡ Some m)
+      × IsHookAnswer may_give p m (Some answer.properties.items))
   pub all : (j m : ℕ) → j < i → slice_get list j ≡ Some m →
       IsTrue (has_import_meta (tree_of p m)) →
-      (answer : Answer) × Contains answers answer × (answer.«module» ≡ j)
+      (answer : MetaAnswer) × Contains answers answer × (answer.which ≡ j)
 
 -- answers for modules that stand at their places: each is of a reached module that has an
 -- `import.meta`, and has no fault; each such module has one
-pub record AreAskedAnswers (q : Program) (answers : List Answer) : Type 0 where
-  pub each : (answer : Answer) → Contains answers answer → IsReached q answer.«module»
-      × IsTrue (has_import_meta (tree_of q answer.«module»))
+pub record AreAskedAnswers (q : Program) (answers : List MetaAnswer) : Type 0 where
+  pub each : (answer : MetaAnswer) → Contains answers answer → IsReached q answer.which
+      × IsTrue (has_import_meta (tree_of q answer.which))
       × AreFaultless q (cleared (flat_map (key_value_prop_items 0) answer.properties.items))
   pub all : (k : ℕ) → IsReached q k → IsTrue (has_import_meta (tree_of q k)) →
-      (answer : Answer) × Contains answers answer × (answer.«module» ≡ k)
+      (answer : MetaAnswer) × Contains answers answer × (answer.which ≡ k)

@@ -5,7 +5,7 @@ use Rattle.bundle_tree_ast.specs.declared.expr.Expr.{Expr}
 use Rattle.bundle_tree_ast.specs.declared.module.Module.{Module}
 use Rattle.bundle_tree_ast.specs.declared.prop.KeyValueProp.{KeyValueProp}
 use Rattle.bundle_tree_listed.specs.Tree.{key_value_prop_items, module_items}
-use Rattle.bundle_tree_piece.specs.Item.{Item}
+use Rattle.bundle_syntax.specs.Item.{Item}
 use Rattle.bundle_rules.specs.Bundle.{Hooks, form_of, IsBundle}
 use Rattle.bundle_rules.specs.Cleared.{cleared}
 use Rattle.bundle_rules.specs.Doubled.{first_doubled}
@@ -17,20 +17,20 @@ use Rattle.bundle_rules.specs.Program.{Program, file_of}
 use Rattle.bundle_rules.specs.Scopes.{Es}
 use Rattle.bundle_tree_names.specs.FileName.{Name, name_of}
 use Rattle.bundle_tree_names.specs.declared.file_name.FileName.{FileName}
-use Rattle.bundle_merge_whole.specs.made.Given.{all_fresh}
-use Rattle.bundle_merge_whole.specs.planned.Decided.{numbers_from}
+use Rattle.bundle_merge_theory.specs.made.Given.{all_fresh}
+use Rattle.bundle_merge_theory.specs.planned.Decided.{numbers_from}
 use Rattle.bundle_merge_names.specs.Refused.{RefusesNames}
 use Rattle.bundle_merge_names.specs.declared.error.MergeError.TheVariants as e
 use Rattle.bundler_entry.specs.Finished.{IsFinished}
 use Rattle.bundler_entry.specs.Linked.{IsFileAt}
 use Rattle.bundler_entry.specs.Merged.{IsMergedIn}
 use Rattle.bundler_entry.specs.Parts.{found_at}
-use Rattle.bundler_entry.specs.declared.call.Call.{Call}
-use Rattle.bundler_entry.specs.declared.entry.Answer.{Answer}
-use Rattle.bundler_entry.specs.declared.linked.Linked.{Linked}
+use Rattle.bundler_entry.specs.declared.call.EntryCall.{EntryCall}
+use Rattle.bundler_entry.specs.declared.entry.MetaAnswer.{MetaAnswer}
+use Rattle.bundler_entry.specs.declared.linked.LinkedEntry.{LinkedEntry}
 use Rattle.bundler_entry.specs.declared.meta.ReadMeta.{ReadMeta}
-use Rattle.bundler_entry.specs.declared.unlinked.Unlinked.{Unlinked}
-use Rattle.bundler_entry.specs.declared.unlinked.Unlinked.TheVariants.{ContextsUsedUp, OutOfMemory}
+use Rattle.bundler_entry.specs.declared.unlinked.EntryError.{EntryError}
+use Rattle.bundler_entry.specs.declared.unlinked.EntryError.TheVariants.{ContextsUsedUp, OutOfMemory}
 
 -- the list of properties, as it is kept
 abbrev pub kept_properties : List (KeyValueProp Expr) → List Item
@@ -41,15 +41,15 @@ abbrev pub answers_in : List (Option ReadMeta) → ℕ → Option (List Item)
 answers_in metas k = option_map (λ meta. kept_properties meta.properties.now) (found_at metas k)
 
 -- each is one of these answers, and stands at the number of its module
-abbrev pub AreOfAnswers : List Answer → (ℕ → Option (List Item)) → Type 0
+abbrev pub AreOfAnswers : List MetaAnswer → (ℕ → Option (List Item)) → Type 0
 AreOfAnswers answers its =
     (k : ℕ) (properties : List Item) → its k ≡ Some properties →
-    (answer : Answer) × Contains answers answer × (answer.«module» ≡ k)
+    (answer : MetaAnswer) × Contains answers answer × (answer.which ≡ k)
     × (properties ≡ kept_properties answer.properties.items)
 
 -- a module is made of the modules of an entry, which are those of q by their places, where this was
 -- answered for them: what they are together is named and put into its form
-pub record IsMadeOf (q : Program) (call : Call) (linked : Linked)
+pub record IsMadeOf (q : Program) (call : EntryCall) (linked : LinkedEntry)
     (answers : ℕ → Option (List Item)) (made : Module) : Type 0 where
   pub merged : Module
   pub is_merged : IsMergedIn q linked answers merged
@@ -57,8 +57,8 @@ pub record IsMadeOf (q : Program) (call : Call) (linked : Linked)
 
 -- the modules of an entry make none: a growth was refused; or contexts are used up, which is told of
 -- the file of the module whose names get them or, of the linker's own names, of the entry's
-pub data IsRefusedMaking (q : Program) (call : Call) (linked : Linked)
-    (answers : ℕ → Option (List Item)) : Unlinked → Type 0 where
+pub data IsRefusedMaking (q : Program) (call : EntryCall) (linked : LinkedEntry)
+    (answers : ℕ → Option (List Item)) : EntryError → Type 0 where
   for_memory : IsRefusedMaking q call linked answers OutOfMemory
   for_module : {k : ℕ} (next : ℕ) (file : FileName × ℕ) (told : FileName) →
       next ≤ 2 * call.program.now.count + 2 →

@@ -2,40 +2,40 @@
 use Rattle.std.specs.Prelude.{◌≡◌, ℕ, zero, List, Option, Some, None, length, map}
 use Rattle.bundle_tree_ast.specs.declared.module.Module.{Module}
 use Rattle.bundle_tree_listed.specs.Tree.{module_items}
-use Rattle.bundle_tree_piece.specs.Item.{Item}
+use Rattle.bundle_syntax.specs.Item.{Item}
 use Rattle.bundle_rules.specs.Entries.{has_import_meta}
 use Rattle.bundle_rules.specs.Kept.{local_context}
 use Rattle.bundle_rules.specs.Program.{Program, tree_of, IsReached}
 use Rattle.bundle_rules.specs.Statements.{own_statements}
-use Rattle.bundle_merge_meaning.specs.joined.Joined.{joined}
-use Rattle.bundle_merge_whole.specs.made.Alone.{TellApart}
-use Rattle.bundle_merge_whole.specs.made.Given.{Contexts, TopOf, all_fresh}
-use Rattle.bundle_merge_whole.specs.made.Made.{AreMade}
-use Rattle.bundle_merge_whole.specs.planned.Blocks.{block_of}
-use Rattle.bundle_merge_whole.specs.planned.Decided.{Decided, numbers_from}
-use Rattle.bundle_merge_whole.specs.planned.Placed.{id_at}
-use Rattle.bundle_merge_whole.specs.sound.Decided.{decided_by}
+use Rattle.bundle_merge_theory.specs.joined.Joined.{joined_items}
+use Rattle.bundle_merge_theory.specs.made.Alone.{TellApart}
+use Rattle.bundle_merge_theory.specs.made.Given.{BundleContexts, TopOf, all_fresh}
+use Rattle.bundle_merge_theory.specs.made.Made.{AreMade}
+use Rattle.bundle_merge_theory.specs.planned.Blocks.{block_of}
+use Rattle.bundle_merge_theory.specs.planned.Decided.{Decided, numbers_from}
+use Rattle.bundle_merge_theory.specs.planned.Placed.{id_at}
+use Rattle.bundle_merge_theory.specs.sound.Decided.{decided_by}
 use Rattle.bundle_merge_items.specs.Adds.{any_hooks}
 use Rattle.bundle_tree_names.specs.FileName.{name_of}
 use Rattle.bundle_tree_names.specs.declared.file_name.FileName.{FileName}
-use Rattle.bundle_link_reached.specs.declared.reached.Reached.{Reached}
+use Rattle.bundle_link.specs.declared.reached.Reached.{Reached}
 use Rattle.bundler_entry.specs.Linked.{IsFileAt}
-use Rattle.bundler_entry.specs.declared.call.Call.{Call}
-use Rattle.bundler_entry.specs.declared.linked.Linked.{Linked}
-use Rattle.bundler_entry.specs.declared.unlinked.Unlinked.{Unlinked}
-use Rattle.bundler_entry.specs.declared.unlinked.Unlinked.TheVariants.{ContextsUsedUp}
+use Rattle.bundler_entry.specs.declared.call.EntryCall.{EntryCall}
+use Rattle.bundler_entry.specs.declared.linked.LinkedEntry.{LinkedEntry}
+use Rattle.bundler_entry.specs.declared.unlinked.EntryError.{EntryError}
+use Rattle.bundler_entry.specs.declared.unlinked.EntryError.TheVariants.{ContextsUsedUp}
 
 -- what is decided of the modules of an entry, which are those of q by their places
-abbrev pub decided_in : Program → Linked → Decided
+abbrev pub decided_in : Program → LinkedEntry → Decided
 decided_in q linked =
     decided_by linked.linking (λ k. has_import_meta (tree_of q k))
     (λ k. length (own_statements (tree_of q k))) (length linked.reached.list.items)
     (map block_of linked.plan.blocks.items)
 
 -- a module is what is made of the modules of an entry, before it is named and put into its form
-pub record IsMergedIn (q : Program) (linked : Linked) (answers : ℕ → Option (List Item))
+pub record IsMergedIn (q : Program) (linked : LinkedEntry) (answers : ℕ → Option (List Item))
     (merged : Module) : Type 0 where
-  pub context : Contexts
+  pub context : BundleContexts
   pub apart : TellApart q (all_fresh answers) context
   pub tops : (k : ℕ) → IsReached q k →
       context (TopOf k) ≡ local_context (id_at linked.reached.list.items k)
@@ -43,10 +43,11 @@ pub record IsMergedIn (q : Program) (linked : Linked) (answers : ℕ → Option 
   pub items : List (List Item)
   pub are_made : AreMade q any_hooks (numbers_from zero (length linked.reached.list.items)) context
       (all_fresh answers) (decided_in q linked) orders items
-  pub is : module_items 0 merged ≡ joined items
+  pub is : module_items 0 merged ≡ joined_items items
 
 -- the refusal is that contexts are used up, of the file of a module or, without one, of the entry's
-pub record TellsContexts (call : Call) (reached : Reached) (found : Option ℕ) (refusal : Unlinked) :
+pub record TellsContexts (call : EntryCall) (reached : Reached) (found : Option ℕ)
+    (refusal : EntryError) :
     Type 0 where
   pub told : FileName
   pub is : refusal ≡ ContextsUsedUp told

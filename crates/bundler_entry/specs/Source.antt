@@ -2,7 +2,7 @@
 use Rattle.std.specs.Prelude.{◌≡◌, ℕ, ◌<◌, ◌≤◌, List, Some, true, Contains, IsTrue, length, slice_get}
 use Rattle.std.specs.Option.{option_map}
 use Rattle.bundle_tree_names.specs.FileName.{Name, name_of}
-use Rattle.bundle_tree_piece.specs.Item.{Item}
+use Rattle.bundle_syntax.specs.Item.{Item}
 use Rattle.bundle_tree_listed.specs.Tree.{module_items}
 use Rattle.bundle_tree.specs.declared.load.ModuleData.{ModuleData}
 use Rattle.bundle_rules.specs.Nodes.{Text}
@@ -14,36 +14,37 @@ use Rattle.bundle_rules.specs.Faults.{IsFaultless}
 use Rattle.bundle_rules.specs.Linking.{exports}
 use Rattle.bundle_rules.specs.Program.{Loaded, Program, module_of, tree_of}
 use Rattle.bundle_rules.specs.Scopes.{Cjs, Es}
-use Rattle.bundle_scope_denote.specs.Listed.{IsTable, place_and_symbol, told_of}
-use Rattle.bundle_scope_renamed.specs.fit.Fits.{IsFit}
-use Rattle.bundle_scope_renamed.specs.fit.Sorts.{AModule}
+use Rattle.bundle_scope_denote.specs.Listed.{IsDenotationTable, place_and_symbol, doubled_told}
+use Rattle.bundle_scope_names.specs.fit.Fits.{IsFit}
+use Rattle.bundle_scope_names.specs.fit.Sorts.{AModule}
 use Rattle.bundle_link_index.specs.Programs.{IsTableOf}
 use Rattle.bundle_link_targets.specs.Meant.{IsModuleTree}
-use Rattle.bundle_link_reached.specs.Files.{AreNotedOf}
-use Rattle.bundle_link_reached.specs.Default.{DeclaresDefaultAlone}
-use Rattle.bundler_entry.specs.declared.source.Program.{Program as Read}
-use Rattle.bundler_entry.specs.declared.source.Source.{Source}
+use Rattle.bundle_link.specs.Files.{AreNotedOf}
+use Rattle.bundle_link.specs.Default.{DeclaresDefaultAlone}
+use Rattle.bundler_entry.specs.declared.source.ReadFiles.{ReadFiles as Read}
+use Rattle.bundler_entry.specs.declared.source.ReadFile.{ReadFile}
 
 -- a module as it is kept: its contexts and notes are gone
 abbrev pub kept_as : ModuleData → Loaded
-kept_as given = record { file_name = name_of given.file_name; items = cleared (module_items 0 given.«module») }
+kept_as given =
+    record { file_name = name_of given.file_name; items = cleared (module_items 0 given.module) }
 
 -- the list of the tree that was read
-abbrev pub list_of_source : Source → List Item
-list_of_source source = module_items 0 source.«module».now
+abbrev pub list_of_source : ReadFile → List Item
+list_of_source source = module_items 0 source.tree.now
 
 -- what was read is module m of a program, with the name that its loader gave, its tree, what its names denote in an ES module, the first of them that is declared twice there and, where it may be one, in a CommonJS module, its table, and whether it has `import.meta`; it is the tree of a module, has no fault by itself, and one entry of each name
-pub record IsSourceOf (p : Program) (m : ℕ) (source : Source) : Type 0 where
+pub record IsSourceOf (p : Program) (m : ℕ) (source : ReadFile) : Type 0 where
   pub loaded : Loaded
   pub there : module_of p m ≡ Some loaded
   pub given : name_of source.given.now ≡ loaded.file_name
   pub list : tree_of p m ≡ cleared (list_of_source source)
-  pub names : IsTable BySymbol Es (list_of_source source) source.names
-  pub doubled : option_map told_of source.noted.es
+  pub names : IsDenotationTable BySymbol Es (list_of_source source) source.names
+  pub doubled : option_map doubled_told source.noted.es
       ≡ option_map place_and_symbol (first_doubled Es (list_of_source source))
   pub doubled_common_js : IsTrue p.settings.require →
       IsTrue (is_script (tree_of p m)) →
-      option_map told_of source.noted.common_js
+      option_map doubled_told source.noted.common_js
       ≡ option_map place_and_symbol (first_doubled Cjs (list_of_source source))
   pub table : IsTableOf p m source.tables
   pub meta : source.tables.has_import_meta ≡ has_import_meta (tree_of p m)
@@ -59,16 +60,16 @@ pub record IsSourceOf (p : Program) (m : ℕ) (source : Source) : Type 0 where
       a ≡ b
 
 -- the same of modules in turn
-pub record AreSourcesOf (p : Program) (numbers : List ℕ) (sources : List Source) : Type 0 where
+pub record AreSourcesOf (p : Program) (numbers : List ℕ) (sources : List ReadFile) : Type 0 where
   pub long : length sources ≡ length numbers
-  pub each : (place m : ℕ) (source : Source) →
+  pub each : (place m : ℕ) (source : ReadFile) →
       slice_get numbers place ≡ Some m →
       slice_get sources place ≡ Some source →
       IsSourceOf p m source
 
 -- the files of a call and what was read of them are those of a program, and the count is the least
 -- that is above their numbers
-pub record IsProgramOf (p : Program) (read : Read) : Type 0 where
+pub record IsReadProgram (p : Program) (read : Read) : Type 0 where
   pub files : AreNotedOf p read.files
   pub sources : AreSourcesOf p read.files.ids.keys read.sources.items
   pub count : (m : ℕ) → Contains read.files.ids.keys m → m < read.count

@@ -1,11 +1,11 @@
 -- What the refusals are that are no answer of the loader or the resolver.
 use Rattle.bundle_tree_names.specs.declared.error.Error.{Error}
-use Rattle.bundler_entry.specs.declared.unlinked.Unlinked.{Unlinked}
-use Rattle.bundler_entry.specs.declared.unlinked.Unlinked.TheVariants as u
+use Rattle.bundler_entry.specs.declared.unlinked.EntryError.{EntryError}
+use Rattle.bundler_entry.specs.declared.unlinked.EntryError.TheVariants as u
 use Rattle.bundle_tree_names.specs.declared.error.Error.TheVariants as e
 
 -- the refusal of a bundle where trees are not linked
-abbrev pub error_of : Unlinked → Error
+abbrev pub error_of : EntryError → Error
 error_of u.OutOfMemory = e.OutOfMemory
 error_of (u.Hook file) = e.Hook file
 error_of (u.ContextsUsedUp file) = e.ContextsUsedUp file

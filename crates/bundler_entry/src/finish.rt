@@ -2,24 +2,24 @@
 //! where the settings say so.
 
 ghost use Rattle.std.specs.Prelude.{◌≡◌, IfOk, map, if◌then◌else◌};
-ghost use Rattle.bundle_scope_names.specs.declared.names.Contexts.TheVariants.{Clear, Keep};
-ghost use Rattle.bundle_tree_piece.specs.Item.{item_of};
+ghost use Rattle.bundle_scope_names.specs.declared.names.ContextRule.TheVariants.{Clear, Keep};
+ghost use Rattle.bundle_syntax.specs.Item.{item_of};
 ghost use Rattle.bundle_rules.specs.Forms.{wrapped};
 ghost use Rattle.bundle_merge_forms.specs.Wrapped.{CanBeWrapped};
 ghost use Rattle.bundle_scope_denote.specs.Chains.{AreInOrder};
-ghost use Rattle.bundle_scope_denote.specs.Numbers.{numbered};
+ghost use Rattle.bundle_scope_denote.specs.Numbers.{numbered_scope};
 ghost use Rattle.bundle_tree_listed.specs.Tree.{module_items};
-ghost use Rattle.bundle_merge_whole.specs.finished.Ended.{AreEndNames, IsNamedAtOnce};
+ghost use Rattle.bundle_merge_theory.specs.finished.Ended.{AreEndNames, IsNamedAtOnce};
 ghost use Rattle.bundle_tree_rename.specs.Naming.{naming_of};
-ghost use Rattle.bundler_entry.specs.Finished.{IsEnded, IsFinished, NamesInTurn, context_for, is_renaming, naming_for};
+ghost use Rattle.bundler_entry.specs.Finished.{IsEnded, IsFinished, NamesInTurn, context_kept, is_renaming, naming_for};
 
 use bundle_merge_forms::wrap_with_iife;
 use bundle_scope_denote::{Denotations, Denoted, ModuleKind, Reading, denotations};
-use bundle_scope_names::{Contexts, Names, hygienic_names, keyword_names};
+use bundle_scope_names::{ContextRule, Names, hygienic_names, keyword_names};
+use bundle_syntax::Piece;
 use bundle_tree_ast::Module;
 use bundle_tree_list::pieces_of_module;
 use bundle_tree_names::config::{Config, ModuleType};
-use bundle_tree_piece::Piece;
 use bundle_tree_rename::{NewName, Rename};
 use std::alloc::{AllocError, Global};
 
@@ -36,11 +36,11 @@ pub fn finished(alloc: Global, mut merged: Module, config: &Config) -> Result<Mo
 }
 
 // A module as the call of one function.
-fn called(alloc: Global, module: &Module) -> Result<Module, AllocError>
-    ensures { CanBeWrapped «module».now.body.items → IfOk result
-        (λ made. module_items 0 made ≡ wrapped (module_items 0 «module».now)) }
+fn called(alloc: Global, tree: &Module) -> Result<Module, AllocError>
+    ensures { CanBeWrapped tree.now.body.items → IfOk result
+        (λ made. module_items 0 made ≡ wrapped (module_items 0 tree.now)) }
 {
-    match wrap_with_iife(alloc, module) {
+    match wrap_with_iife(alloc, tree) {
         Ok(call) => Ok(call),
         Err(_) => Err(AllocError),
     }
@@ -79,10 +79,10 @@ fn end_names(alloc: Global, merged: &Module, config: &Config) -> Result<EndNames
 }
 
 // The list of a module, without room for more.
-fn list_of<'x>(alloc: Global, module: &'x Module) -> Result<Vec<Piece<'x>>, AllocError>
-    ensures { IfOk result (λ list. map item_of list.items ≡ module_items 0 «module».now) }
+fn list_of<'x>(alloc: Global, tree: &'x Module) -> Result<Vec<Piece<'x>>, AllocError>
+    ensures { IfOk result (λ list. map item_of list.items ≡ module_items 0 tree.now) }
 {
-    let mut list = pieces_of_module(alloc, module)?;
+    let mut list = pieces_of_module(alloc, tree)?;
     list.shrink_to_fit();
     Ok(list)
 }
@@ -104,7 +104,7 @@ fn new_names<'n>(
     alloc: Global,
     names: &'n Names,
     bindings: &[Option<usize>],
-    contexts: Contexts,
+    contexts: ContextRule,
 ) -> Result<Vec<NewName<'n>>, AllocError>
     ensures { IfOk result (λ new.
         map naming_of new.items ≡ map (naming_for names.now contexts) bindings.now) }
@@ -117,7 +117,7 @@ fn new_names<'n>(
 }
 
 // What becomes of an identifier that denotes this binding, or a global.
-fn new_name<'n>(names: &'n Names, binding: Option<usize>, contexts: Contexts) -> NewName<'n>
+fn new_name<'n>(names: &'n Names, binding: Option<usize>, contexts: ContextRule) -> NewName<'n>
     ensures { naming_of result ≡ naming_for names.now contexts binding }
 {
     match binding {
@@ -133,22 +133,22 @@ fn new_name<'n>(names: &'n Names, binding: Option<usize>, contexts: Contexts) ->
 }
 
 // The context that an identifier gets, which is 0 where contexts do not stay.
-fn new_context(contexts: Contexts, ctxt: Option<u32>) -> Option<u32>
-    ensures { result ≡ context_for contexts ctxt }
+fn new_context(contexts: ContextRule, ctxt: Option<u32>) -> Option<u32>
+    ensures { result ≡ context_kept contexts ctxt }
 {
     match contexts {
-        Contexts::Keep => ctxt,
-        Contexts::Clear => Some(0),
+        ContextRule::Keep => ctxt,
+        ContextRule::Clear => Some(0),
     }
 }
 
 // Whether contexts stay: they do where bindings are not renamed.
-fn contexts_of(config: &Config) -> Contexts
+fn contexts_of(config: &Config) -> ContextRule
     ensures { result ≡ (if is_renaming config.now then Clear else Keep) }
 {
     match config.disable_hygiene {
-        true => Contexts::Keep,
-        false => Contexts::Clear,
+        true => ContextRule::Keep,
+        false => ContextRule::Clear,
     }
 }
 
@@ -159,7 +159,7 @@ fn names_of<'c>(
     denoted: &Denotations<'c>,
     config: &Config,
 ) -> Result<Names, AllocError>
-    requires { AreInOrder (map numbered denoted.now.scopes.items) }
+    requires { AreInOrder (map numbered_scope denoted.now.scopes.items) }
     ensures { IfOk result (λ names.
         AreEndNames (is_renaming config.now) (map item_of list.now) denoted.now names) }
 {

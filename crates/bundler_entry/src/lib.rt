@@ -12,9 +12,9 @@ mod meta;
 mod source;
 mod unlinked;
 
-pub use call::Call;
-pub use entry::{Answer, ask_all, module_of};
+pub use call::EntryCall;
+pub use entry::{MetaAnswer, ask_all, module_of};
 pub use finish::finished;
-pub use linked::{Linked, linked_entry};
-pub use source::{Program, Source, program_of, source_of};
-pub use unlinked::Unlinked;
+pub use linked::{LinkedEntry, linked_entry};
+pub use source::{ReadFile, ReadFiles, program_of, source_of};
+pub use unlinked::EntryError;

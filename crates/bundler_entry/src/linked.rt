@@ -4,16 +4,16 @@ ghost use Rattle.std.specs.Prelude.{◌≡◌, ℕ, suc, Some, IfOk, IfErr, IfSo
 ghost use Rattle.bundle_tree_names.specs.FileName.{name_of};
 ghost use Rattle.bundle_rules.specs.Faults.{IsFirstProgramFault, fault_of};
 ghost use Rattle.bundle_rules.specs.Program as program;
-ghost use Rattle.bundle_link_reached.specs.Judged.{says};
-ghost use Rattle.bundler_entry.specs.Linked.{AreLinkedIn, AreNotes, AreParts, HasPlaces, IsCallOf, IsLinkedEntry, IsPartAt, IsReachedIn, TellsFileAt, ids_of};
+ghost use Rattle.bundle_link.specs.Judged.{says};
+ghost use Rattle.bundler_entry.specs.Linked.{AreEntryLinks, AreNotes, AreLinkModules, HasPlaces, IsCallOf, IsLinkedEntry, IsPartAt, IsReachedIn, TellsFileAt, ids_of};
 ghost use Rattle.bundler_entry.specs.Unlinked.{error_of};
 
-use crate::call::{Call, file_at};
+use crate::call::{EntryCall, file_at};
 use crate::fault::{doubled_refusal, link_refusal};
-use crate::source::Source;
-use crate::unlinked::Unlinked;
+use crate::source::ReadFile;
+use crate::unlinked::EntryError;
 use bundle_link::link::setting_of;
-use bundle_link_reached::{Noted, Reached, Told, judged, reached_from};
+use bundle_link::{DoubledNames, ModuleFault, Reached, judged, reached_from};
 use bundle_link_targets::{LinkModule, Linking};
 use bundle_order_sort::{Plan, plan_of};
 use bundle_tree_names::ModuleId;
@@ -22,16 +22,16 @@ use std::alloc::{AllocError, Global};
 
 /// The modules that an entry reaches, what their names are linked to, and the blocks of those that reach each other,
 /// whose places are those of the modules on the list.
-pub struct Linked<'x> {
+pub struct LinkedEntry<'x> {
     pub(crate) reached: Reached,
     pub(crate) linking: Linking<'x>,
     pub(crate) plan: Plan,
 }
 
 // By hand, so that who lets go of one only calls this.
-impl<'x> Drop for Linked<'x> {
+impl<'x> Drop for LinkedEntry<'x> {
     fn drop(self) {
-        let Linked {
+        let LinkedEntry {
             reached: _reached,
             linking: _linking,
             plan: _plan,
@@ -42,9 +42,9 @@ impl<'x> Drop for Linked<'x> {
 /// Links the modules that an entry reaches. Refused by the first fault, or where memory runs out.
 pub fn linked_entry<'p, 'x>(
     alloc: Global,
-    call: &Call<'p, 'x>,
+    call: &EntryCall<'p, 'x>,
     entry: ModuleId,
-) -> Result<Linked<'x>, Unlinked>
+) -> Result<LinkedEntry<'x>, EntryError>
     ensures linked { IfOk result (λ linked. (p : program.Program) → IsCallOf p entry call.now →
         IsLinkedEntry p call.now linked) }
     ensures refused { IfErr result (λ unlinked.
@@ -56,7 +56,7 @@ pub fn linked_entry<'p, 'x>(
     let reached = reached_from(alloc, files, entry)?;
     let linking = linking_of(alloc, call, &reached)?;
     let plan = plan_of(alloc, &files.graph, entry, &reached.list)?;
-    Ok(Linked {
+    Ok(LinkedEntry {
         reached,
         linking,
         plan,
@@ -66,14 +66,14 @@ pub fn linked_entry<'p, 'x>(
 // What the names of the modules are linked to. Refused by the first fault.
 fn linking_of<'p, 'x>(
     alloc: Global,
-    call: &Call<'p, 'x>,
+    call: &EntryCall<'p, 'x>,
     reached: &Reached,
-) -> Result<Linking<'x>, Unlinked>
+) -> Result<Linking<'x>, EntryError>
     ensures linked { IfOk result (λ linking.
         (p : program.Program) (entry : ℕ) →
         IsCallOf p entry call.now →
         IsReachedIn p call.now reached.now →
-        AreLinkedIn p call.now reached.now linking) }
+        AreEntryLinks p call.now reached.now linking) }
     ensures refused { IfErr result (λ unlinked.
         (p : program.Program) (entry : ℕ) →
         IsCallOf p entry call.now →
@@ -93,17 +93,17 @@ fn linking_of<'p, 'x>(
 // The tables of the modules, and where their requests lead.
 fn modules_of<'t, 'x>(
     alloc: Global,
-    sources: &'t [Source<'x>],
+    sources: &'t [ReadFile<'x>],
     reached: &'t Reached,
 ) -> Result<Vec<LinkModule<'t, 'x>>, AllocError>
     ensures { IfOk result (λ modules.
         HasPlaces sources.entry.now reached.entry.now (length reached.entry.now.places.items) →
-        AreParts sources.entry.now reached.entry.now (length reached.entry.now.places.items)
+        AreLinkModules sources.entry.now reached.entry.now (length reached.entry.now.places.items)
         modules.items) }
 {
     let mut modules = Vec::new(alloc);
-    for module in 0..reached.places.len() {
-        if let Some(part) = part_at(sources, reached, module) {
+    for which in 0..reached.places.len() {
+        if let Some(part) = part_at(sources, reached, which) {
             modules.push(part)?;
         }
     }
@@ -112,16 +112,16 @@ fn modules_of<'t, 'x>(
 
 // The tables of a module, and where its requests lead.
 fn part_at<'t, 'x>(
-    sources: &'t [Source<'x>],
+    sources: &'t [ReadFile<'x>],
     reached: &'t Reached,
-    module: usize,
+    which: usize,
 ) -> Option<LinkModule<'t, 'x>>
-    ensures part { IfSome result (IsPartAt sources.entry.now reached.entry.now «module») }
-    ensures there { HasPlaces sources.entry.now reached.entry.now (suc «module») →
+    ensures part { IfSome result (IsPartAt sources.entry.now reached.entry.now which) }
+    ensures there { HasPlaces sources.entry.now reached.entry.now (suc which) →
         IsSome result }
 {
-    let source = sources.get(*reached.places.get(module)?)?;
-    let leads = reached.leads.get(module)?;
+    let source = sources.get(*reached.places.get(which)?)?;
+    let leads = reached.leads.get(which)?;
     let tables = &source.tables;
     Some(LinkModule { tables, leads })
 }
@@ -129,9 +129,9 @@ fn part_at<'t, 'x>(
 // What is noted of each of the modules.
 fn notes_of<'x>(
     alloc: Global,
-    sources: &[Source<'x>],
+    sources: &[ReadFile<'x>],
     reached: &Reached,
-) -> Result<Vec<Noted<'x>>, AllocError>
+) -> Result<Vec<DoubledNames<'x>>, AllocError>
     ensures { IfOk result (λ notes.
         HasPlaces sources.now reached.now (length reached.now.places.items) →
         AreNotes sources.now reached.now (length reached.now.places.items) notes.items) }
@@ -148,10 +148,10 @@ fn notes_of<'x>(
 // The refusal for a fault of modules.
 fn refusal_of<'p, 'x>(
     alloc: Global,
-    call: &Call<'p, 'x>,
+    call: &EntryCall<'p, 'x>,
     reached: &Reached,
-    told: Told<'x>,
-) -> Result<Unlinked, AllocError>
+    told: ModuleFault<'x>,
+) -> Result<EntryError, AllocError>
     ensures { IfOk result (λ refusal. TellsFileAt call.now reached.now told.entry refusal) }
 {
     match file_at(call, reached, told.module()) {
@@ -161,12 +161,16 @@ fn refusal_of<'p, 'x>(
 }
 
 // The same, of this file.
-fn told_refusal<'x>(alloc: Global, file: &FileName, told: Told<'x>) -> Result<Unlinked, AllocError>
+fn told_refusal<'x>(
+    alloc: Global,
+    file: &FileName,
+    told: ModuleFault<'x>,
+) -> Result<EntryError, AllocError>
     ensures { IfOk result (λ refusal.
         fault_of (error_of refusal) ≡ Some (says told.entry (name_of file.now))) }
 {
     match told {
-        Told::Link(fault) => link_refusal(alloc, file, fault),
-        Told::Doubled(_, doubled) => doubled_refusal(alloc, file, doubled),
+        ModuleFault::Link(fault) => link_refusal(alloc, file, fault),
+        ModuleFault::Doubled(_, doubled) => doubled_refusal(alloc, file, doubled),
     }
 }

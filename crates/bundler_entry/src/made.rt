@@ -7,9 +7,9 @@ ghost use Rattle.bundle_tree_listed.specs.Tree.{module_items};
 ghost use Rattle.bundle_rules.specs.Declarations.{BySymbol};
 ghost use Rattle.bundle_rules.specs.Program as program;
 ghost use Rattle.bundle_rules.specs.Scopes.{Cjs};
-ghost use Rattle.bundle_scope_denote.specs.Listed.{IsTable};
+ghost use Rattle.bundle_scope_denote.specs.Listed.{IsDenotationTable};
 ghost use Rattle.bundle_link_targets.specs.Linked.{IsLinkingOf};
-ghost use Rattle.bundle_merge_whole.specs.made.Given.{all_fresh};
+ghost use Rattle.bundle_merge_theory.specs.made.Given.{all_fresh};
 ghost use Rattle.bundle_merge_items.specs.Adds.{AreAnswered};
 ghost use Rattle.bundler_entry.specs.Hook.{AreRead};
 ghost use Rattle.bundler_entry.specs.Linked.{HasFiles, HasPlace, HasPlaces, IsCallOf, IsFileAt, IsLinkedEntry};
@@ -17,15 +17,16 @@ ghost use Rattle.bundler_entry.specs.Made.{IsRefusedMaking, answers_in};
 ghost use Rattle.bundler_entry.specs.Merged.{IsMergedIn, TellsContexts};
 ghost use Rattle.bundler_entry.specs.Parts.{AreBodies, AreEntryParts, IsAnswerRead, IsBodyAt, IsEntryPart};
 
-use crate::call::{Call, file_at, source_at};
-use crate::linked::Linked;
+use crate::call::{EntryCall, file_at, source_at};
+use crate::linked::LinkedEntry;
 use crate::meta::ReadMeta;
-use crate::source::Source;
-use crate::unlinked::Unlinked;
-use bundle_link_reached::Reached;
+use crate::source::ReadFile;
+use crate::unlinked::EntryError;
+use bundle_link::Reached;
 use bundle_link_targets::Linking;
 use bundle_merge_items::{
-    Answered, BundleParts, Contexts, MergeError, Merged, Part, local_context, merge_modules,
+    Answered, BundleInput, BundleModule, FreshContexts, MergeError, MergedModule, local_context,
+    merge_modules,
 };
 use bundle_scope_denote::{Denotations, ModuleKind, Reading, denotations};
 use bundle_tree_ast::Module;
@@ -37,7 +38,7 @@ use std::collections::BTreeMap;
 // What the names of each CommonJS module denote, read as the body of a function.
 fn bodies_of<'p, 'x>(
     alloc: Global,
-    call: &Call<'p, 'x>,
+    call: &EntryCall<'p, 'x>,
     reached: &Reached,
     linking: &Linking<'x>,
 ) -> Result<Vec<Option<Denotations<'x>>>, AllocError>
@@ -45,8 +46,8 @@ fn bodies_of<'p, 'x>(
         AreBodies q call.now reached.now (length reached.now.places.items) bodies.items) }
 {
     let mut bodies = Vec::new(alloc);
-    for module in 0..reached.places.len() {
-        bodies.push(body_at(alloc, call, reached, linking, module)?)?;
+    for which in 0..reached.places.len() {
+        bodies.push(body_at(alloc, call, reached, linking, which)?)?;
     }
     Ok(bodies)
 }
@@ -54,38 +55,38 @@ fn bodies_of<'p, 'x>(
 // What the names of a module denote as the body of a function, where it is a CommonJS module.
 fn body_at<'p, 'x>(
     alloc: Global,
-    call: &Call<'p, 'x>,
+    call: &EntryCall<'p, 'x>,
     reached: &Reached,
     linking: &Linking<'x>,
-    module: usize,
+    which: usize,
 ) -> Result<Option<Denotations<'x>>, AllocError>
     ensures { IfOk result (λ body. (q : program.Program) → IsLinkingOf q linking.now →
-        IsBodyAt q call.now reached.now «module» body) }
+        IsBodyAt q call.now reached.now which body) }
 {
-    if !linking.is_common_js(module) {
+    if !linking.is_common_js(which) {
         return Ok(None);
     }
-    match source_at(call, reached, module) {
+    match source_at(call, reached, which) {
         Some(source) => Ok(Some(body_of(alloc, source)?)),
         None => Ok(None),
     }
 }
 
 // What the names of a module denote, read as the body of a function.
-fn body_of<'x>(alloc: Global, source: &Source<'x>) -> Result<Denotations<'x>, AllocError>
-    ensures { IfOk result (IsTable BySymbol Cjs (module_items 0 source.now.«module».now)) }
+fn body_of<'x>(alloc: Global, source: &ReadFile<'x>) -> Result<Denotations<'x>, AllocError>
+    ensures { IfOk result (IsDenotationTable BySymbol Cjs (module_items 0 source.now.tree.now)) }
 {
-    let list = pieces_of_module(alloc, source.module)?;
+    let list = pieces_of_module(alloc, source.tree)?;
     denotations(alloc, list.as_slice(), ModuleKind::Cjs, Reading::BySymbol)
 }
 
 /// The module that all modules make, before it is finished, where this is what the hook answered, by their numbers.
 pub fn made<'p, 'x, 'h>(
     alloc: Global,
-    call: &Call<'p, 'x>,
-    linked: &Linked<'x>,
+    call: &EntryCall<'p, 'x>,
+    linked: &LinkedEntry<'x>,
     metas: &[Option<ReadMeta<'h>>],
-) -> Result<Module, Unlinked>
+) -> Result<Module, EntryError>
     ensures made { IfOk result (λ made. (p : program.Program) (entry : ℕ) →
         IsCallOf p entry call.now → (its : IsLinkedEntry p call.now linked.now) →
         AreRead metas.now → AreAnswered its.links.places (all_fresh (answers_in metas.now)) →
@@ -98,27 +99,27 @@ pub fn made<'p, 'x, 'h>(
     let (reached, linking) = (&linked.reached, &linked.linking);
     let bodies = bodies_of(alloc, call, reached, linking)?;
     let merged = merged_of(alloc, call, linked, bodies.as_slice(), metas)?;
-    let Merged {
-        module,
+    let MergedModule {
+        tree,
         contexts: _contexts,
     } = merged;
-    Ok(module)
+    Ok(tree)
 }
 
 // The items that all modules make, where these are the names of the CommonJS ones.
 fn merged_of<'t, 'p: 't, 'x, 'h>(
     alloc: Global,
-    call: &Call<'p, 'x>,
-    linked: &'t Linked<'x>,
+    call: &EntryCall<'p, 'x>,
+    linked: &'t LinkedEntry<'x>,
     bodies: &'t [Option<Denotations<'x>>],
     metas: &'t [Option<ReadMeta<'h>>],
-) -> Result<Merged, Unlinked>
+) -> Result<MergedModule, EntryError>
     ensures merged { IfOk result (λ merged. (p : program.Program) (entry : ℕ) →
         IsCallOf p entry call.now → (its : IsLinkedEntry p call.now linked.now) →
         AreBodies its.links.places call.now linked.now.reached
         (length linked.now.reached.places.items) bodies.now →
         AreRead metas.now → AreAnswered its.links.places (all_fresh (answers_in metas.now)) →
-        IsMergedIn its.links.places linked.now (answers_in metas.now) merged.module) }
+        IsMergedIn its.links.places linked.now (answers_in metas.now) merged.tree) }
     ensures refused { IfErr result (λ unlinked. (p : program.Program) (entry : ℕ) →
         IsCallOf p entry call.now → (its : IsLinkedEntry p call.now linked.now) →
         AreBodies its.links.places call.now linked.now.reached
@@ -128,18 +129,18 @@ fn merged_of<'t, 'p: 't, 'x, 'h>(
 {
     let parts = parts_of(alloc, call, &linked.reached, bodies)?;
     let answers = answers_of(alloc, metas)?;
-    let bundle = BundleParts {
+    let bundle = BundleInput {
         parts: parts.as_slice(),
         answers: answers.as_slice(),
         linking: &linked.linking,
         blocks: linked.plan.blocks.as_slice(),
-        contexts: Contexts::above(call.program.count),
+        contexts: FreshContexts::above(call.program.count),
     };
     match merge_modules(alloc, &bundle) {
         Ok(merged) => Ok(merged),
-        Err(MergeError::OutOfMemory) => Err(Unlinked::OutOfMemory),
-        Err(MergeError::ContextsUsedUp { module }) => {
-            Err(contexts_refusal(call, &linked.reached, module)?)
+        Err(MergeError::OutOfMemory) => Err(EntryError::OutOfMemory),
+        Err(MergeError::ContextsUsedUp { which }) => {
+            Err(contexts_refusal(call, &linked.reached, which)?)
         }
     }
 }
@@ -147,10 +148,10 @@ fn merged_of<'t, 'p: 't, 'x, 'h>(
 // The modules as they are merged.
 fn parts_of<'t, 'p: 't, 'x>(
     alloc: Global,
-    call: &Call<'p, 'x>,
+    call: &EntryCall<'p, 'x>,
     reached: &'t Reached,
     bodies: &'t [Option<Denotations<'x>>],
-) -> Result<Vec<Part<'t, 'x>>, AllocError>
+) -> Result<Vec<BundleModule<'t, 'x>>, AllocError>
     ensures { IfOk result (λ parts.
         HasPlaces call.now.program.now.sources.items reached.entry.now
         (length reached.entry.now.leads.items) →
@@ -169,25 +170,25 @@ fn parts_of<'t, 'p: 't, 'x>(
 
 // A module as it is merged with others.
 fn part_of<'t, 'p: 't, 'x>(
-    call: &Call<'p, 'x>,
+    call: &EntryCall<'p, 'x>,
     reached: &Reached,
-    module: usize,
+    which: usize,
     leads: &'t BTreeMap<String, usize>,
     bodies: &'t [Option<Denotations<'x>>],
-) -> Option<Part<'t, 'x>>
+) -> Option<BundleModule<'t, 'x>>
     ensures part { IfSome result (λ part.
-        slice_get reached.now.leads.items «module» ≡ Some leads.entry.now →
-        IsEntryPart call.now reached.now bodies.entry.now «module» part) }
-    ensures there { HasPlace call.now.program.now.sources.items reached.now «module» →
-        (file : names.FileName × ℕ) → IsFileAt call.now reached.now «module» file →
+        slice_get reached.now.leads.items which ≡ Some leads.entry.now →
+        IsEntryPart call.now reached.now bodies.entry.now which part) }
+    ensures there { HasPlace call.now.program.now.sources.items reached.now which →
+        (file : names.FileName × ℕ) → IsFileAt call.now reached.now which file →
         IsSome result }
 {
-    let source = source_at(call, reached, module)?;
-    let (_, id) = file_at(call, reached, module)?;
-    let body = body_in(bodies, module);
+    let source = source_at(call, reached, which)?;
+    let (_, id) = file_at(call, reached, which)?;
+    let body = body_in(bodies, which);
     let denotations = names_of(&source.names, body);
-    Some(Part {
-        items: source.module.body.as_slice(),
+    Some(BundleModule {
+        items: source.tree.body.as_slice(),
         denotations,
         tables: &source.tables,
         leads,
@@ -199,11 +200,11 @@ fn part_of<'t, 'p: 't, 'x>(
 // What was found of a module, read as the body of a function.
 fn body_in<'t, 'x>(
     bodies: &'t [Option<Denotations<'x>>],
-    module: usize,
+    which: usize,
 ) -> Option<&'t Option<Denotations<'x>>>
-    ensures { option_copied result ≡ slice_get bodies.entry.now «module» }
+    ensures { option_copied result ≡ slice_get bodies.entry.now which }
 {
-    bodies.get(module)
+    bodies.get(which)
 }
 
 // What the names of a module denote: as in the body of a function, where that was read, or else these.
@@ -250,30 +251,30 @@ fn answer_of<'t, 'h>(meta: &'t Option<ReadMeta<'h>>) -> Option<Answered<'t, 'h>>
 // The refusal where contexts run out for a module's names or, without one, for those of the linker's own, which stand
 // in no file but the entry's.
 fn contexts_refusal<'p, 'x>(
-    call: &Call<'p, 'x>,
+    call: &EntryCall<'p, 'x>,
     reached: &Reached,
-    module: Option<usize>,
-) -> Result<Unlinked, AllocError>
-    ensures { IfOk result (TellsContexts call.now reached.now «module») }
+    which: Option<usize>,
+) -> Result<EntryError, AllocError>
+    ensures { IfOk result (TellsContexts call.now reached.now which) }
 {
-    let file = file_told(call, reached, module).clone()?;
-    Ok(Unlinked::ContextsUsedUp { file })
+    let file = file_told(call, reached, which).clone()?;
+    Ok(EntryError::ContextsUsedUp { file })
 }
 
 // The file of a module or, without one, the entry's.
 fn file_told<'p, 'x: 'p>(
-    call: &Call<'p, 'x>,
+    call: &EntryCall<'p, 'x>,
     reached: &Reached,
-    module: Option<usize>,
+    which: Option<usize>,
 ) -> &'p FileName
-    ensures of_module { (k : ℕ) (file : names.FileName × ℕ) → «module» ≡ Some k →
+    ensures of_module { (k : ℕ) (file : names.FileName × ℕ) → which ≡ Some k →
         IsFileAt call.now reached.now k file → result.now ≡ file.0 }
-    ensures of_entry { «module» ≡ None → result.now ≡ call.now.entry.now }
+    ensures of_entry { which ≡ None → result.now ≡ call.now.entry.now }
 {
-    let Some(module) = module else {
+    let Some(which) = which else {
         return call.entry;
     };
-    match file_at(call, reached, module) {
+    match file_at(call, reached, which) {
         Some((file, _)) => file,
         None => call.entry,
     }

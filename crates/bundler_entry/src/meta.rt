@@ -2,30 +2,30 @@
 
 ghost use Rattle.std.specs.Prelude.{◌≡◌, codes, map, slice_get, IfOk, IfErr, IfSome, List, OnOk};
 ghost use Rattle.std.specs.List.{flat_map, list_any};
-ghost use Rattle.bundle_scope_denote.specs.Listed.{IsTable};
+ghost use Rattle.bundle_scope_denote.specs.Listed.{IsDenotationTable};
 ghost use Rattle.bundle_tree_names.specs.FileName.{name_of};
-ghost use Rattle.bundle_tree_piece.specs.Item.{Item, Open, head_of, item_of};
+ghost use Rattle.bundle_syntax.specs.Item.{Item, Open, head_of, item_of};
 ghost use Rattle.bundle_tree_listed.specs.Tree.{key_value_prop_items};
 ghost use Rattle.bundle_rules.specs.Declarations.{BySymbol};
 ghost use Rattle.bundle_rules.specs.Scopes.{Es};
-ghost use Rattle.bundle_link_tables.specs.Free.{frees_name, is_called};
+ghost use Rattle.bundle_link_tables.specs.Free.{frees_name, is_ident_called};
 ghost use Rattle.bundle_tree_places.specs.Heads.{begins_here};
 ghost use Rattle.bundle_rules.specs.Bound.{has_free};
 ghost use Rattle.bundle_rules.specs.Bundle as bundle;
 ghost use Rattle.bundle_rules.specs.Bundle.{properties_tree};
 ghost use Rattle.bundle_rules.specs.Faults.{HookFails, fault_of};
 ghost use Rattle.bundle_rules.specs.Nodes.{has_head};
-ghost use Rattle.bundler_entry.specs.Hook.{IsAskedFault, IsFaultOfAnswer, IsRead, IsRightAnswer};
+ghost use Rattle.bundler_entry.specs.Hook.{IsAskedFault, IsFaultOfAnswer, IsMetaRead, IsRightAnswer};
 ghost use Rattle.bundler_entry.specs.Unlinked.{error_of};
 
 use crate::fault::doubled_refusal;
-use crate::unlinked::Unlinked;
+use crate::unlinked::EntryError;
 use bundle_scope_denote::{Denotations, Denoted, ModuleKind, Reading, denotations, first_doubled};
+use bundle_syntax::{Node, Piece};
 use bundle_tree::hook::{Hook, HookError, ModuleRecord};
 use bundle_tree_ast::KeyValueProp;
 use bundle_tree_list::pieces_of_properties;
 use bundle_tree_names::file_name::FileName;
-use bundle_tree_piece::{Node, Piece};
 use std::alloc::{AllocError, Global};
 
 /// An answer as it was read: the properties, the list of a module of one statement, an object that has them, and what
@@ -46,7 +46,7 @@ pub fn ask(
     given: &FileName,
     is_entry: bool,
     is_iife: bool,
-) -> Result<Vec<KeyValueProp>, Unlinked>
+) -> Result<Vec<KeyValueProp>, EntryError>
     ensures given { IfOk result (λ properties.
         may_give hook.now (name_of given.now) is_entry properties.items) }
     ensures right { IfOk result (λ properties.
@@ -68,7 +68,7 @@ fn given_by(
     file: &FileName,
     given: &FileName,
     is_entry: bool,
-) -> Result<Vec<KeyValueProp>, Unlinked>
+) -> Result<Vec<KeyValueProp>, EntryError>
     ensures given { IfOk result (λ properties.
         may_give hook.now (name_of given.now) is_entry properties.items) }
     ensures failed { IfErr result (λ unlinked.
@@ -87,15 +87,15 @@ fn given_by(
 }
 
 // The refusal where the hook gives nothing.
-fn hook_refusal(file: &FileName, error: HookError) -> Result<Unlinked, AllocError>
+fn hook_refusal(file: &FileName, error: HookError) -> Result<EntryError, AllocError>
     ensures { IfOk result (λ unlinked. IfSome (fault_of (error_of unlinked)) (λ fault.
         (fault ≡ HookFails (name_of file.now)) × (error ≡ HookError.Failed))) }
 {
     Ok(match error {
-        HookError::Failed => Unlinked::Hook {
+        HookError::Failed => EntryError::Hook {
             file: file.clone()?,
         },
-        HookError::OutOfMemory => Unlinked::OutOfMemory,
+        HookError::OutOfMemory => EntryError::OutOfMemory,
     })
 }
 
@@ -105,7 +105,7 @@ fn judge(
     file: &FileName,
     properties: &[KeyValueProp],
     is_iife: bool,
-) -> Result<(), Unlinked>
+) -> Result<(), EntryError>
     ensures right { OnOk result
         (IsRightAnswer is_iife (flat_map (key_value_prop_items 0) properties.now)) }
     ensures wrong { IfErr result (λ unlinked.
@@ -124,8 +124,8 @@ fn judge_list<'x>(
     pieces: &[Piece<'x>],
     names: &Denotations<'x>,
     is_iife: bool,
-) -> Result<(), Unlinked>
-    requires { IsTable BySymbol Es (map item_of pieces.now) names.now }
+) -> Result<(), EntryError>
+    requires { IsDenotationTable BySymbol Es (map item_of pieces.now) names.now }
     ensures right { OnOk result
         ((answer : List Item) →
         map item_of pieces.now ≡ properties_tree answer → IsRightAnswer is_iife answer) }
@@ -138,12 +138,12 @@ fn judge_list<'x>(
         return Err(doubled_refusal(alloc, file, doubled)?);
     }
     if has_with(pieces) {
-        return Err(Unlinked::With {
+        return Err(EntryError::With {
             file: file.clone()?,
         });
     }
     if is_iife && has_free_arguments(pieces, names) {
-        return Err(Unlinked::ArgumentsUnderIife {
+        return Err(EntryError::ArgumentsUnderIife {
             file: file.clone()?,
         });
     }
@@ -179,7 +179,7 @@ fn is_with(piece: Piece) -> bool
 
 // Whether an `arguments` stands there that nothing binds.
 fn has_free_arguments(pieces: &[Piece], names: &Denotations) -> bool
-    ensures { IsTable BySymbol Es (map item_of pieces.now) names.now →
+    ensures { IsDenotationTable BySymbol Es (map item_of pieces.now) names.now →
         result ≡ has_free (map item_of pieces.now) (codes "arguments") }
 {
     some_free(pieces, names)
@@ -207,7 +207,7 @@ fn is_free_arguments(pieces: &[Piece], occurrence: Denoted) -> bool
 // Whether an identifier `arguments` stands at a place.
 #[tactic(auto, using(std::proofs::lemmas::Grind::common_steps, std::proofs::lemmas::Option::gets, bundle_link_tables::proofs::MarkLemmas::get_mapped))]
 fn is_arguments(pieces: &[Piece], place: usize) -> bool
-    ensures { result ≡ is_called (codes "arguments") (slice_get (map item_of pieces.now) place) }
+    ensures { result ≡ is_ident_called (codes "arguments") (slice_get (map item_of pieces.now) place) }
 {
     match pieces.get(place) {
         Some(Piece::Ident { sym, .. }) => "arguments" == *sym,
@@ -220,7 +220,7 @@ pub fn read_meta<'x>(
     alloc: Global,
     properties: &'x [KeyValueProp],
 ) -> Result<ReadMeta<'x>, AllocError>
-    ensures { IfOk result (IsRead properties.now) }
+    ensures { IfOk result (IsMetaRead properties.now) }
 {
     let pieces = pieces_of_object(alloc, properties)?;
     let names = denotations(alloc, pieces.as_slice(), ModuleKind::Es, Reading::BySymbol)?;

@@ -2,9 +2,9 @@
 
 ghost use Rattle.std.specs.Prelude.{◌≡◌, ◌&&◌, ℕ, ◌<◌, ◌≤◌, Contains, Some, IfOk, IsTrue, map};
 ghost use Rattle.std.specs.Option.{option_map};
-ghost use Rattle.bundle_scope_denote.specs.Listed.{IsTable, place_and_symbol, told_of};
+ghost use Rattle.bundle_scope_denote.specs.Listed.{IsDenotationTable, place_and_symbol, doubled_told};
 ghost use Rattle.bundle_tree_names.specs.FileName.{Name};
-ghost use Rattle.bundle_tree_piece.specs.Item.{item_of};
+ghost use Rattle.bundle_syntax.specs.Item.{item_of};
 ghost use Rattle.bundle_tree_listed.specs.Tree.{module_items};
 ghost use Rattle.bundle_rules.specs.Declarations.{BySymbol};
 ghost use Rattle.bundle_rules.specs.Doubled as doubled;
@@ -15,39 +15,39 @@ ghost use Rattle.bundle_rules.specs.Program as the_program;
 ghost use Rattle.bundle_rules.specs.Program.{module_of};
 ghost use Rattle.bundle_link.specs.Read.{AreTablesOf};
 ghost use Rattle.bundle_link.specs.Refusals.{Links};
-ghost use Rattle.bundle_link_reached.specs.Files.{AreFilesOf, numbers_of};
-ghost use Rattle.bundler_entry.specs.Source.{AreSourcesOf, IsProgramOf, IsSourceOf, kept_as};
+ghost use Rattle.bundle_link.specs.Files.{AreFilesOf, numbers_of};
+ghost use Rattle.bundler_entry.specs.Source.{AreSourcesOf, IsReadProgram, IsSourceOf, kept_as};
 
-use bundle_link_reached::{Files, Noted};
+use bundle_link::{DoubledNames, Files};
 use bundle_link_tables::{Tables, tables_of};
 use bundle_scope_denote::{Denotations, Doubled, ModuleKind, first_doubled, names_and_doubled};
+use bundle_syntax::Piece;
 use bundle_tree::load::ModuleData;
 use bundle_tree_ast::Module;
 use bundle_tree_list::pieces_of_module;
 use bundle_tree_names::ModuleId;
 use bundle_tree_names::config::Config;
 use bundle_tree_names::file_name::FileName;
-use bundle_tree_piece::Piece;
 use std::alloc::{AllocError, Global};
 
 /// A file as it was read: the name that its loader gave it, its tree, what its names denote in an ES module, the first of
 /// them that it declares twice there and, where it may be one, in a CommonJS module, and its tables. Its list is not kept:
 /// it is longer than the tree, and is soon made again.
 #[derive(Drop)]
-pub struct Source<'x> {
+pub struct ReadFile<'x> {
     pub given: &'x FileName,
-    pub module: &'x Module,
+    pub tree: &'x Module,
     pub names: Denotations<'x>,
-    pub noted: Noted<'x>,
+    pub noted: DoubledNames<'x>,
     pub tables: Tables<'x>,
 }
 
 /// The files of a call with their numbers and where their requests lead, what was read of each, and how many numbers
 /// there are up to the last of theirs.
 #[derive(Drop)]
-pub struct Program<'x> {
+pub struct ReadFiles<'x> {
     pub files: Files<'x>,
-    pub sources: Vec<Source<'x>>,
+    pub sources: Vec<ReadFile<'x>>,
     pub count: usize,
 }
 
@@ -56,8 +56,8 @@ pub fn source_of<'x>(
     alloc: Global,
     loaded: &'x ModuleData,
     config: &Config,
-) -> Result<Source<'x>, AllocError>
-    requires { (file : Name) × IsFaultless file (module_items 0 loaded.now.«module») }
+) -> Result<ReadFile<'x>, AllocError>
+    requires { (file : Name) × IsFaultless file (module_items 0 loaded.now.module) }
     ensures { IfOk result (λ source.
         (p : the_program.Program) (m : ℕ) →
         Links config.now p.settings →
@@ -69,11 +69,11 @@ pub fn source_of<'x>(
     let tables = tables_in(alloc, pieces.as_slice(), &named.names, config)?;
     let is_asked = may_be_common_js(config, &tables);
     let common_js = doubled_in_function(alloc, pieces.as_slice(), is_asked)?;
-    Ok(Source {
+    Ok(ReadFile {
         given: &loaded.file_name,
-        module: &loaded.module,
+        tree: &loaded.module,
         names: named.names,
-        noted: Noted {
+        noted: DoubledNames {
             es: named.doubled,
             common_js,
         },
@@ -94,7 +94,7 @@ fn doubled_in_function<'x>(
     pieces: &[Piece<'x>],
     is_asked: bool,
 ) -> Result<Option<Doubled<'x>>, AllocError>
-    ensures { IsTrue is_asked → IfOk result (λ found. option_map told_of found
+    ensures { IsTrue is_asked → IfOk result (λ found. option_map doubled_told found
         ≡ option_map place_and_symbol (doubled.first_doubled Cjs (map item_of pieces.now))) }
 {
     match is_asked {
@@ -110,7 +110,7 @@ fn tables_in<'x>(
     names: &Denotations<'x>,
     config: &Config,
 ) -> Result<Tables<'x>, AllocError>
-    requires table { IsTable BySymbol Es (map item_of pieces.now) names.now }
+    requires table { IsDenotationTable BySymbol Es (map item_of pieces.now) names.now }
     requires faultless { (file : Name) × IsFaultless file (map item_of pieces.now) }
     ensures given { IfOk result (λ tables.
         (file : Name) → AreTablesOf config.now file (map item_of pieces.now) tables) }
@@ -129,18 +129,18 @@ pub fn program_of<'x>(
     alloc: Global,
     files: &'x [(FileName, ModuleId)],
     deps: &'x [Vec<(String, ModuleId)>],
-    sources: Vec<Source<'x>>,
-) -> Result<Program<'x>, AllocError>
+    sources: Vec<ReadFile<'x>>,
+) -> Result<ReadFiles<'x>, AllocError>
     ensures program { IfOk result (λ made.
         (p : the_program.Program) →
         AreFilesOf p files.entry.now deps.entry.now →
         AreSourcesOf p (numbers_of files.entry.now) sources.entry.items →
-        IsProgramOf p made) }
+        IsReadProgram p made) }
     ensures files { IfOk result (λ made. made.files.files ≡ files.entry) }
 {
     let count = count_of_files(files);
     let files = Files::new(alloc, files, deps)?;
-    Ok(Program {
+    Ok(ReadFiles {
         files,
         sources,
         count,

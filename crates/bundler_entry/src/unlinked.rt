@@ -7,7 +7,7 @@ use std::alloc::{AllocError, AllocFailed};
 /// Why modules that were loaded, none of which is at fault by itself, make no bundle: a fault of one in the bundle, between
 /// them or in what the hook answers, or a growth was refused.
 #[derive(Debug, Drop)]
-pub enum Unlinked {
+pub enum EntryError {
     /// A growth was refused.
     OutOfMemory,
     /// The hook failed.
@@ -40,62 +40,68 @@ pub enum Unlinked {
     ArgumentsUnderIife { file: FileName },
 }
 
-impl From<AllocError> for Unlinked {
+impl From<AllocError> for EntryError {
     ghost use Rattle.std.specs.Prelude.{◌≡◌};
-    ghost use Rattle.bundler_entry.specs.declared.unlinked.Unlinked.TheVariants.{OutOfMemory};
+    ghost use Rattle.bundler_entry.specs.declared.unlinked.EntryError.TheVariants.{OutOfMemory};
 
     ghost from_gives = { λ _ refusal. refusal ≡ OutOfMemory };
 
-    fn from(_refused: AllocError) -> Unlinked {
-        Unlinked::OutOfMemory
+    fn from(_refused: AllocError) -> EntryError {
+        EntryError::OutOfMemory
     }
 }
 
-impl<T: Drop> From<AllocFailed<T>> for Unlinked {
+impl<T: Drop> From<AllocFailed<T>> for EntryError {
     ghost use Rattle.std.specs.Prelude.{◌≡◌};
-    ghost use Rattle.bundler_entry.specs.declared.unlinked.Unlinked.TheVariants.{OutOfMemory};
+    ghost use Rattle.bundler_entry.specs.declared.unlinked.EntryError.TheVariants.{OutOfMemory};
 
     ghost from_gives = { λ _ refusal. refusal ≡ OutOfMemory };
 
-    fn from(_refused: AllocFailed<T>) -> Unlinked {
-        Unlinked::OutOfMemory
+    fn from(_refused: AllocFailed<T>) -> EntryError {
+        EntryError::OutOfMemory
     }
 }
 
-impl From<Unlinked> for Error {
+impl From<EntryError> for Error {
     ghost use Rattle.std.specs.Prelude.{◌≡◌};
     ghost use Rattle.bundler_entry.specs.Unlinked.{error_of};
 
     ghost from_gives = { λ unlinked refusal. refusal ≡ error_of unlinked };
 
-    fn from(unlinked: Unlinked) -> Error {
+    fn from(unlinked: EntryError) -> Error {
         match unlinked {
-            Unlinked::OutOfMemory => Error::OutOfMemory,
-            Unlinked::Hook { file } => Error::Hook { file },
-            Unlinked::ContextsUsedUp { file } => Error::ContextsUsedUp { file },
-            Unlinked::DoubledDeclaration { file, name } => Error::DoubledDeclaration { file, name },
-            Unlinked::MissingExport { file, name } => Error::MissingExport { file, name },
-            Unlinked::AmbiguousExport { file, name } => Error::AmbiguousExport { file, name },
-            Unlinked::ExternalStarOnly { file, name } => Error::ExternalStarOnly { file, name },
-            Unlinked::StarOfCommonJs { file, specifier } => Error::StarOfCommonJs {
+            EntryError::OutOfMemory => Error::OutOfMemory,
+            EntryError::Hook { file } => Error::Hook { file },
+            EntryError::ContextsUsedUp { file } => Error::ContextsUsedUp { file },
+            EntryError::DoubledDeclaration { file, name } => Error::DoubledDeclaration {
+                file,
+                name,
+            },
+            EntryError::MissingExport { file, name } => Error::MissingExport { file, name },
+            EntryError::AmbiguousExport { file, name } => Error::AmbiguousExport { file, name },
+            EntryError::ExternalStarOnly { file, name } => Error::ExternalStarOnly { file, name },
+            EntryError::StarOfCommonJs { file, specifier } => Error::StarOfCommonJs {
                 file,
                 specifier,
             },
-            Unlinked::NamespaceOverExternalStar { file } => Error::NamespaceOverExternalStar {
+            EntryError::NamespaceOverExternalStar { file } => Error::NamespaceOverExternalStar {
                 file,
             },
-            Unlinked::With { file } => Error::With { file },
-            Unlinked::RequiredEsModule { file, specifier } => Error::RequiredEsModule {
-                file,
-                specifier,
-            },
-            Unlinked::RequiredEntry { file, specifier } => Error::RequiredEntry { file, specifier },
-            Unlinked::AwaitInCommonJs { file } => Error::AwaitInCommonJs { file },
-            Unlinked::ExternalUnderIife { file, specifier } => Error::ExternalUnderIife {
+            EntryError::With { file } => Error::With { file },
+            EntryError::RequiredEsModule { file, specifier } => Error::RequiredEsModule {
                 file,
                 specifier,
             },
-            Unlinked::ArgumentsUnderIife { file } => Error::ArgumentsUnderIife { file },
+            EntryError::RequiredEntry { file, specifier } => Error::RequiredEntry {
+                file,
+                specifier,
+            },
+            EntryError::AwaitInCommonJs { file } => Error::AwaitInCommonJs { file },
+            EntryError::ExternalUnderIife { file, specifier } => Error::ExternalUnderIife {
+                file,
+                specifier,
+            },
+            EntryError::ArgumentsUnderIife { file } => Error::ArgumentsUnderIife { file },
         }
     }
 }

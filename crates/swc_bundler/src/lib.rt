@@ -1,16 +1,17 @@
-//! The linker as its users see it: every public item at its path. What each does is said where it is defined;
-//! nothing is defined here.
+//! The linker as its users see it: every public item at its path, and at the root too what the original has there.
+//! What each does is said where it is defined; nothing is defined here.
 #![tactic(auto)]
 
 pub use bundle_link::{link, tables};
-pub use bundle_marks as marks;
 pub use bundle_merge_modules::{inline, modules};
 pub use bundle_order::{graph, sort};
 pub use bundle_scope::scope;
-pub use bundle_tree::{hook, resolve};
+pub use bundle_tree::{Hook, Load, ModuleData, ModuleRecord, Resolve, hook, resolve};
 pub use bundle_tree_ast as ast;
-pub use bundle_tree_names::error::Error;
+pub use bundle_tree_list::is_same;
+pub use bundle_tree_names::{Config, Error, ModuleId, ModuleType};
 pub use bundle_tree_rewrite::TryClone;
+pub use bundler_call::{Bundle, BundleKind, Bundler};
 
 /// Contexts, the names of bindings, and the numbers of modules.
 pub mod id {
@@ -22,6 +23,14 @@ pub mod id {
 pub mod load {
     pub use bundle_tree::{Load, LoadError, ModuleData};
     pub use bundle_tree_names::FileName;
+}
+
+/// The marks of a tree, where each node begins and ends, and the tree with other identifiers.
+pub mod marks {
+    pub use bundle_marks::{
+        Mark, Node, Occurrence, Renaming, RenamingStep, marks, occurrences, rename_ids, with_idents,
+    };
+    pub use bundle_syntax::Node as NamedNode;
 }
 
 /// Trees as JSON text: how one is read and how one is written.

@@ -1,23 +1,17 @@
 -- What is fit is laid out as the JSON form wants it: it is the list of a tree whose nodes have their own fields.
 use Rattle.std.proofs.Common.{◌≡◌, ℕ, ◌==◌, ◌&&◌, Bool, true, false, List, [], ◌∷◌, ◌++◌, append_assoc, append-nil, refl, sym, ap, ◌∙◌, subst, eqb-true}
 use Rattle.std.proofs.lemmas.Bool.{false≢true, and_parts}
-use Rattle.bundle_tree_piece.specs.declared.piece.Role.{Role}
-use Rattle.bundle_tree_piece.specs.Item as h
-use Rattle.bundle_tree_piece.specs.Item.{Item, Head}
-use Rattle.bundle_scope_renamed.specs.fit.Sorts.{Sort, Count, One, Optional, Many, Places, Slot, slot, names_in, slots}
-use Rattle.bundle_scope_renamed.specs.fit.Fits.{after, AreFit, no_more, over, a_name, a_hole, a_node, IsFit, name, node}
+use Rattle.bundle_syntax.specs.declared.piece.Role.{Role}
+use Rattle.bundle_syntax.specs.Item as h
+use Rattle.bundle_syntax.specs.Item.{Item, Head}
+use Rattle.bundle_scope_names.specs.fit.Sorts.{NodeSort, NodeCount, One, Optional, Many, Places, NodeSlot, slot, names_of_sort, slots}
+use Rattle.bundle_scope_names.specs.fit.Fits.{fields_after, AreFit, no_more, over, a_name, a_hole, a_node, IsFit, name, node}
 use Rattle.bundle_json_form.specs.Form as f
 use Rattle.bundle_json_form.specs.declared.layout.Shape.{Shape}
 use Rattle.bundle_json_form.specs.declared.layout.Shape.TheVariants as s
-use Rattle.bundle_json_form.specs.Form.{Field, fields, Tree, Fields, Trees, tree_items, fields_items, trees_items, Fits, IsLaidOut, AreLaidOut, EachLaidOut}
+use Rattle.bundle_json_form.specs.Form.{Field, node_fields, Tree, Fields, Trees, tree_items, fields_items, trees_items, Fits, IsLaidOut, AreLaidOut}
 
-abbrev shape_of : Count → Shape
-shape_of One = s.One
-shape_of Optional = s.Optional
-shape_of Many = s.List
-shape_of Places = s.Places
-
-abbrev same_shape : Count → Shape → Bool
+abbrev same_shape : NodeCount → Shape → Bool
 same_shape One s.One = true
 same_shape Optional s.Optional = true
 same_shape Many s.List = true
@@ -25,13 +19,13 @@ same_shape Places s.Places = true
 same_shape _ _ = false
 
 -- the same fields, by their numbers and how many nodes they hold
-abbrev pub agree : List Slot → List Field → Bool
+abbrev pub agree : List NodeSlot → List Field → Bool
 agree [] [] = true
 agree (slot number count sort ∷ more) (it ∷ others) =
     ((it.number == number) && same_shape count it.shape) && agree more others
 agree _ _ = false
 
-pub agree_all : (head : Head) (names : Role) → agree (slots head names) (fields head) ≡ true
+pub agree_all : (head : Head) (names : Role) → agree (slots head names) (node_fields head) ≡ true
 agree_all h.Module names = refl
 agree_all (h.NewExpr true) names = refl
 agree_all (h.NewExpr false) names = refl
@@ -105,27 +99,27 @@ another it others t {items = items} holds laid (f.in_field number trees rest) is
 }
 
 -- what a field and the others agree in
-number_is : (n : ℕ) (c : Count) (k : Sort) (more : List Slot) (it : Field) (others : List Field) →
+number_is : (n : ℕ) (c : NodeCount) (k : NodeSort) (more : List NodeSlot) (it : Field) (others : List Field) →
     agree (slot n c k ∷ more) (it ∷ others) ≡ true → it.number ≡ n
 number_is n c k more it others ok =
     eqb-true it.number n
     (and_parts (it.number == n) (same_shape c it.shape) (and_parts ((it.number == n) && same_shape c it.shape) (agree more others) ok).0).0
 
-shape_is : (n : ℕ) (c : Count) (k : Sort) (more : List Slot) (it : Field) (others : List Field) →
+shape_is : (n : ℕ) (c : NodeCount) (k : NodeSort) (more : List NodeSlot) (it : Field) (others : List Field) →
     agree (slot n c k ∷ more) (it ∷ others) ≡ true → same_shape c it.shape ≡ true
 shape_is n c k more it others ok =
     (and_parts (it.number == n) (same_shape c it.shape) (and_parts ((it.number == n) && same_shape c it.shape) (agree more others) ok).0).1
 
-others_are : (n : ℕ) (c : Count) (k : Sort) (more : List Slot) (it : Field) (others : List Field) →
+others_are : (n : ℕ) (c : NodeCount) (k : NodeSort) (more : List NodeSlot) (it : Field) (others : List Field) →
     agree (slot n c k ∷ more) (it ∷ others) ≡ true → agree more others ≡ true
 others_are n c k more it others ok =
     (and_parts ((it.number == n) && same_shape c it.shape) (agree more others) ok).1
 
 -- a tree, and then what stands in the fields that are left
-placed : (n : ℕ) (c : Count) (k : Sort) (more : List Slot) (it : Field) (others : List Field)
+placed : (n : ℕ) (c : NodeCount) (k : NodeSort) (more : List NodeSlot) (it : Field) (others : List Field)
     (t : Tree) {items : List Item} →
     agree (slot n c k ∷ more) (it ∷ others) ≡ true → IsLaidOut t →
-    ((them : List Field) → agree (after n c k more) them ≡ true → IsShown them items) →
+    ((them : List Field) → agree (fields_after n c k more) them ≡ true → IsShown them items) →
     IsShown (it ∷ others) (tree_items n t ++ items)
 placed n One k more it others t {items = items} ok laid then =
     subst (λ m. IsShown (it ∷ others) (tree_items m t ++ items))
@@ -146,7 +140,7 @@ node_items n head inner inside rest is =
     ap (λ l. h.Open n head ∷ l)
     (append_assoc (fields_items inner) (h.Close ∷ []) rest ∙ ap (λ l. l ++ h.Close ∷ rest) (sym is))
 
-pub shown : {list : List Slot} {items : List Item} → AreFit list items → (them : List Field) →
+pub shown : {list : List NodeSlot} {items : List Item} → AreFit list items → (them : List Field) →
     agree list them ≡ true → IsShown them items
 shown no_more [] ok = record { inside = f.no_fields; listed = refl; laid = tt }
 shown no_more (it ∷ others) ok = absurd (false≢true ok)
@@ -160,7 +154,7 @@ shown (a_hole {number = n} {sort = k} {more = more} fit) (it ∷ others) ok =
     placed n Places k more it others f.hole ok tt (λ them e. shown fit them e)
 shown (a_node it in_it fit) [] ok = absurd (false≢true ok)
 shown (a_node {number = n} {count = c} {sort = k} {more = more} {head = hd} {inside = ins} {rest = rest} takes_it in_it fit) (it ∷ others) ok =
-    let sh = shown in_it (fields hd) (agree_all hd (names_in k)) in
+    let sh = shown in_it (node_fields hd) (agree_all hd (names_of_sort k)) in
     subst (IsShown (it ∷ others)) (node_items n hd sh.inside ins rest sh.listed) (placed n c k more it others (f.node hd sh.inside) ok sh.laid (λ them e. shown fit them e))
 
 -- one node is the list of a tree that is laid out
@@ -169,9 +163,9 @@ pub record IsShownTree (field : ℕ) (items : List Item) : Type 0 where
   pub listed : items ≡ tree_items field tree
   pub laid : IsLaidOut tree
 
-pub shown_tree : {sort : Sort} {field : ℕ} {items : List Item} → IsFit sort field items →
+pub shown_tree : {sort : NodeSort} {field : ℕ} {items : List Item} → IsFit sort field items →
     IsShownTree field items
 shown_tree (name {x = x} {ctxt = t} {role = role} it) = record { tree = f.ident x t role; listed = refl; laid = tt }
 shown_tree (node {sort = k} {field = n} {head = hd} {inside = ins} it in_it) =
-    let sh = shown in_it (fields hd) (agree_all hd (names_in k)) in
+    let sh = shown in_it (node_fields hd) (agree_all hd (names_of_sort k)) in
     record { tree = f.node hd sh.inside; listed = ap (λ l. h.Open n hd ∷ (l ++ h.Close ∷ [])) sh.listed; laid = sh.laid }

@@ -4,7 +4,7 @@ ghost use Rattle.std.specs.Prelude.{◌≡◌, ◌↔◌, ◌+◌, ◌<◌, ◌+
 ghost use Rattle.std.specs.Option.{option_copied};
 ghost use Rattle.std.specs.Str.{bytes_eq};
 ghost use Rattle.std.specs.BTreeMap.{get};
-ghost use Rattle.bundle_scope_denote.specs.texts.Placed.{IsPut};
+ghost use Rattle.bundle_scope_denote.specs.texts.Placed.{IsKeyPut};
 ghost use Rattle.indexmap.specs.IndexSet.{contains, contains_by, index_of_by, index_set_len, insert_index, insert_key, IsEmpty, IsUnchanged, IsUnique, Updates};
 
 use std::alloc::{AllocError, Global};
@@ -143,7 +143,7 @@ fn put<K: Ord + Copy + Drop>(
     place: usize,
 ) -> Result<Option<usize>, AllocError>
     ensures own { IfOk result (λ own. own ≡ get K.cmp places.old key) }
-    ensures places { IfOk result (λ own. IsPut K.cmp places.old places.new key place own) }
+    ensures places { IfOk result (λ own. IsKeyPut K.cmp places.old places.new key place own) }
     ensures err { OnErr result ((other : K) → get K.cmp places.new other ≡ get K.cmp places.old other) }
 {
     let own = places.insert(key, place)?;

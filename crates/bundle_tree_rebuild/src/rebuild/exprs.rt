@@ -2,7 +2,7 @@
 
 ghost use Rattle.std.specs.Prelude.{◌≡◌, ℕ, IfOk, is_some};
 ghost use Rattle.bundle_tree_ast.specs.declared.expr.Expr.{MemberExpr as MemberOf, MetaPropExpr};
-ghost use Rattle.bundle_tree_piece.specs.Item.{CallExpr};
+ghost use Rattle.bundle_syntax.specs.Item.{CallExpr};
 ghost use Rattle.bundle_tree_listed.specs.Tree.{arrow_body_items, callee_items, each_expr_items, each_expr_or_spread_items, each_option_expr_or_spread_items, expr_items, expr_or_spread_items, expr_or_spread_place_items, node, opt_call_items, opt_chain_base_items, option_boxed_expr_items, option_each_expr_or_spread_items, option_expr_items, paren_expr_items, super_prop_expr_items, tpl_items};
 ghost use Rattle.bundle_tree_places.specs.Edits.{Anywhere};
 ghost use Rattle.bundle_tree_places.specs.Marks as marks;
@@ -12,11 +12,11 @@ ghost use Rattle.bundle_tree_rebuild.specs.Parts.{boxed_expr_items, member_parts
 ghost use Rattle.bundle_tree_rebuild.specs.Work.{after};
 
 use crate::rebuild::Rebuild;
+use bundle_syntax::kind::MetaPropKind;
 use bundle_tree_ast::{
     ArrowBody, Callee, Expr, ExprOrSpread, MemberExpr, OptCall, OptChainBase, ParenExpr,
     SuperPropExpr, Tpl,
 };
-use bundle_tree_leaf::kind::MetaPropKind;
 use bundle_tree_places::Name;
 use std::alloc::AllocError;
 

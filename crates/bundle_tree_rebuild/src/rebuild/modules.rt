@@ -1,10 +1,10 @@
 //! Modules, imports and exports (ECMA-262, 16.2).
 
 ghost use Rattle.std.specs.Prelude.{◌≡◌, ℕ, IfOk};
-ghost use Rattle.bundle_tree_leaf.specs.declared.specifier.ExportSpecifier.TheVariants.{ExportNamedSpecifier};
-ghost use Rattle.bundle_tree_leaf.specs.declared.specifier.ModuleExportName.TheVariants.{Ident as NameOf};
-ghost use Rattle.bundle_tree_piece.specs.declared.piece.Role.{Role};
-ghost use Rattle.bundle_tree_piece.specs.declared.piece.Role.TheVariants.{Reference};
+ghost use Rattle.bundle_syntax.specs.declared.specifier.ExportSpecifier.TheVariants.{ExportNamedSpecifier};
+ghost use Rattle.bundle_syntax.specs.declared.specifier.ModuleExportName.TheVariants.{Ident as NameOf};
+ghost use Rattle.bundle_syntax.specs.declared.piece.Role.{Role};
+ghost use Rattle.bundle_syntax.specs.declared.piece.Role.TheVariants.{Reference};
 ghost use Rattle.bundle_tree_listed.specs.Tree.{default_decl_items, export_specifier_items, import_specifier_items, module_decl_items, module_export_name_items, module_item_items, module_items, role_of_names};
 ghost use Rattle.bundle_tree_places.specs.Edits.{Anywhere};
 ghost use Rattle.bundle_tree_rebuild.specs.Remade.{Remade};
@@ -29,11 +29,11 @@ fn are_names_own(src: &Option<Str>) -> bool
 }
 
 impl<'r, 'c> Rebuild<'r, 'c> {
-    pub fn module(&mut self, module: &Module) -> Result<Module, AllocError>
+    pub fn module(&mut self, tree: &Module) -> Result<Module, AllocError>
         ensures { IfOk result (λ made.
-            Remade Anywhere module_items self.old «module».now made self.new) }
+            Remade Anywhere module_items self.old tree.now made self.new) }
     {
-        let body = self.each_module_item(module.body.as_slice())?;
+        let body = self.each_module_item(tree.body.as_slice())?;
         Ok(Module { body })
     }
 

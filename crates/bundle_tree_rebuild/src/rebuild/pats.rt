@@ -5,7 +5,7 @@ ghost use Rattle.bundle_tree_listed.specs.Tree.{array_pat_items, assign_target_i
 ghost use Rattle.bundle_tree_places.specs.Edits.{Anywhere};
 ghost use Rattle.bundle_tree_rebuild.specs.Remade.{RemadeFirst, RemadePattern};
 ghost use Rattle.bundle_tree_rebuild.specs.Parts.{boxed_pat_items, with_default_items};
-ghost use Rattle.bundle_tree_piece.specs.declared.piece.Role.{Role};
+ghost use Rattle.bundle_syntax.specs.declared.piece.Role.{Role};
 ghost use Rattle.bundle_tree_ast.specs.declared.pat.ObjectPatProp.{AssignPatProp};
 
 use crate::rebuild::Rebuild;

@@ -1,7 +1,7 @@
 //! Modules, imports and exports (ECMA-262, 16.2).
 
 ghost use Rattle.std.specs.Prelude.{◌≡◌, IfOk};
-ghost use Rattle.bundle_tree_leaf.specs.declared.specifier.ExportSpecifier.TheVariants.{ExportNamedSpecifier};
+ghost use Rattle.bundle_syntax.specs.declared.specifier.ExportSpecifier.TheVariants.{ExportNamedSpecifier};
 ghost use Rattle.bundle_tree_listed.specs.Tree.{default_decl_items, export_specifier_items, import_specifier_items, module_decl_items, module_item_items, module_items, role_of_names};
 ghost use Rattle.bundle_tree_places.specs.Edits.{Anywhere};
 ghost use Rattle.bundle_tree_rename.specs.Parts.{each_export_specifier_items, each_import_specifier_items, each_module_item_items, option_word_items, role_of, second_name_items};
@@ -26,11 +26,11 @@ fn are_names_own(src: &Option<Str>) -> bool
 }
 
 impl<'r, 'n> Rename<'r, 'n> {
-    pub fn module(&mut self, module: &mut Module) -> Result<(), AllocError>
+    pub fn module(&mut self, tree: &mut Module) -> Result<(), AllocError>
         ensures { IfOk result (λ done.
-            Renamed Anywhere module_items self.old «module».old «module».new self.new) }
+            Renamed Anywhere module_items self.old tree.old tree.new self.new) }
     {
-        self.each_module_item(&mut module.body)
+        self.each_module_item(&mut tree.body)
     }
 
     pub(crate) fn each_module_item(&mut self, items: &mut Vec<ModuleItem>) -> Result<(), AllocError>

@@ -3,7 +3,7 @@
 ghost use Rattle.std.specs.Prelude.{◌≡◌, ℕ, IfOk, unwrap_or};
 ghost use Rattle.bundle_tree_ast.specs.declared.pat.ObjectPatProp.{AssignPatProp};
 ghost use Rattle.bundle_tree_listed.specs.Tree.{array_pat_items, assign_target_items, each_object_pat_prop_items, each_option_pat_items, each_pat_items, object_pat_items, object_pat_prop_items, option_pat_items, pat_items, pat_place_items, rest_pat_items};
-ghost use Rattle.bundle_tree_piece.specs.declared.piece.Role.{Role};
+ghost use Rattle.bundle_syntax.specs.declared.piece.Role.{Role};
 ghost use Rattle.bundle_tree_places.specs.Edits.{Anywhere};
 ghost use Rattle.bundle_tree_rename.specs.Parts.{boxed_pat_items, with_default_items};
 ghost use Rattle.bundle_tree_rename.specs.Renamed.{Renamed, RenamedPattern};

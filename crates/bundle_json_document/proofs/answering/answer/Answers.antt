@@ -5,14 +5,14 @@ use Rattle.bundle_tree_ast.specs.declared.prop.KeyValueProp.{KeyValueProp}
 use Rattle.bundle_tree_names.specs.FileName.{Name}
 use Rattle.bundle_tree_names.specs.declared.error.Error.{Error}
 use Rattle.bundle_tree_names.specs.declared.error.Error.TheVariants.{OutOfMemory}
-use Rattle.bundle_json_document.specs.Answer.{IsRefusal}
+use Rattle.bundle_json_document.specs.Answer.{IsDocumentRefusal}
 use Rattle.bundle_json_document.specs.declared.document.Document.{Document}
 use Rattle.bundle_json_document.proofs.Wanting.{wants_memory}
 use Rattle.bundle_json_document.proofs.answering.answer.Goals as goal
 
 -- a refusal stands where the line is its own, and the want of memory where it is that one's
 the_one : {P : Error → Type 0} (may_give : Name → Bool → List (KeyValueProp Expr) → Type 0) (may_fail_hook : Name → Bool → Type 0) (document : Document) (refusal : Error)
-    → IsRefusal may_give may_fail_hook document refusal → P refusal ⊎ P OutOfMemory → (told : Error) × IsRefusal may_give may_fail_hook document told × P told
+    → IsDocumentRefusal may_give may_fail_hook document refusal → P refusal ⊎ P OutOfMemory → (told : Error) × IsDocumentRefusal may_give may_fail_hook document told × P told
 the_one may_give may_fail_hook document refusal right (inl line) = (refusal, right, line)
 the_one may_give may_fail_hook document refusal right (inr line) = (OutOfMemory, wants_memory may_give may_fail_hook document, line)
 

@@ -1,6 +1,6 @@
 use Rattle.std.proofs.Common.{◌≡◌, ℕ, List, ◌++◌, codes, decimal, ap₂, ◌∙◌, append_assoc}
 use Rattle.bundle_json_document.specs.Answer.{line_of as line_in}
-use Rattle.bundle_json_document.proofs.Results.{if_ok_weaker}
+use Rattle.bundle_json_document.proofs.Fronts.{if_ok_weaker}
 use Rattle.bundle_json_document.proofs.answering.line_of.Goals as goal
 
 -- the parts of the line, one behind the other

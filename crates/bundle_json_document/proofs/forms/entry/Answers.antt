@@ -1,6 +1,6 @@
 use Rattle.std.proofs.Common.{arith}
 use Rattle.bundle_json_form.specs.Plain.{seen}
-use Rattle.bundle_json_document.proofs.Refusals.{not_pair}
+use Rattle.bundle_json_document.proofs.Turns.{not_pair}
 use Rattle.bundle_json_document.proofs.forms.entry.Goals as goal
 
 pub returns-in_default-clause-refused : goal.returns-in_default-clause-refused

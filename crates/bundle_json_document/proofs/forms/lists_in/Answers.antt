@@ -1,8 +1,8 @@
 use Rattle.std.proofs.Common.{◌≡◌, [], string_bytes, sym, arith, rules}
 use Rattle.bundle_json_document.specs.Document.{AreProperties}
 use Rattle.bundle_json_document.proofs.Maps.{last_map, turn}
-use Rattle.bundle_json_document.proofs.Refusals.{none_mapped}
-use Rattle.bundle_json_document.proofs.Results.{handed_on}
+use Rattle.bundle_json_document.proofs.Turns.{none_mapped}
+use Rattle.bundle_json_document.proofs.Fronts.{handed_on}
 use Rattle.bundle_json_document.proofs.forms.lists_in.Goals as goal
 
 pub loop-name-preserved : goal.loop-name-preserved

@@ -1,4 +1,4 @@
-use Rattle.bundle_json_document.proofs.Results.{if_ok_weaker}
+use Rattle.bundle_json_document.proofs.Fronts.{if_ok_weaker}
 use Rattle.bundle_json_document.proofs.Turns.{document_read}
 use Rattle.bundle_json_document.proofs.read.streamed.Goals as goal
 

@@ -1,9 +1,8 @@
 use Rattle.std.proofs.Common.{[], sym, subst}
 use Rattle.bundle_json_form.specs.Plain.{seen}
-use Rattle.bundle_json_document.specs.Stream.{IsNext}
-use Rattle.bundle_json_document.proofs.Refusals.{next_of, same_next}
-use Rattle.bundle_json_document.proofs.Results.{handed_on}
-use Rattle.bundle_json_document.proofs.Turns.{value_read}
+use Rattle.bundle_json_document.specs.Stream.{IsNextValue}
+use Rattle.bundle_json_document.proofs.Turns.{next_of, same_next, value_read}
+use Rattle.bundle_json_document.proofs.Fronts.{handed_on}
 use Rattle.bundle_json_document.proofs.read.value_of.Goals as goal
 
 pub returns-clause-ok : goal.returns-clause-ok
@@ -13,7 +12,7 @@ pub returns-in_err-value-clause-refused : goal.returns-in_err-value-clause-refus
 returns-in_err-value-clause-refused c =
     handed_on _ _ c.from_residual-in_err-value.ensures.1
     (λ none d value. none [] d
-    (subst (λ ts. IsNext 127 ts [] d) (sym c.in_ok-reader.ensures.ok) (next_of c.args.text.now d value)))
+    (subst (λ ts. IsNextValue 127 ts [] d) (sym c.in_ok-reader.ensures.ok) (next_of c.args.text.now d value)))
     c.in_err-value.ensures.refused
 
 pub returns-in_err-end-clause-refused : goal.returns-in_err-end-clause-refused
@@ -21,5 +20,5 @@ returns-in_err-end-clause-refused c =
     handed_on _ _ c.from_residual-in_err-end.ensures.1
     (λ more d value. more
     (same_next 127 c.in_ok-reader.reader c.read_value.new.reader [] (seen c.in_ok-value.value) d c.in_ok-value.ensures.ok
-    (subst (λ ts. IsNext 127 ts [] d) (sym c.in_ok-reader.ensures.ok) (next_of c.args.text.now d value))))
+    (subst (λ ts. IsNextValue 127 ts [] d) (sym c.in_ok-reader.ensures.ok) (next_of c.args.text.now d value))))
     (λ is_form. c.in_err-end.ensures.refused)

@@ -3,9 +3,9 @@ use Rattle.std.proofs.lemmas.List.{take_all}
 use Rattle.std.specs.List.{AllZip}
 use Rattle.bundle_json_form.specs.Plain.{seen}
 use Rattle.bundle_json_document.specs.Document.{IsText}
-use Rattle.bundle_json_document.proofs.Lists.{values_more}
-use Rattle.bundle_json_document.proofs.Refusals.{no_text, none_zipped}
-use Rattle.bundle_json_document.proofs.Results.{handed_on}
+use Rattle.bundle_json_document.proofs.Maps.{values_more}
+use Rattle.bundle_json_document.proofs.Turns.{no_text, none_zipped}
+use Rattle.bundle_json_document.proofs.Fronts.{handed_on}
 use Rattle.bundle_json_document.proofs.settings.texts_in.Goals as goal
 
 pub loop-value-preserved : goal.loop-value-preserved

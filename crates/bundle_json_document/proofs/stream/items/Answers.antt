@@ -4,14 +4,14 @@ use Rattle.serde_json.specs.Data.{no_items, array}
 use Rattle.bundle_json_form.specs.Form.{top, AreForms}
 use Rattle.bundle_json_form.proofs.Growth.{items_then}
 use Rattle.bundle_tree_listed.specs.Tree.{module_item_items}
-use Rattle.bundle_json_document.specs.Document.{no_notes}
-use Rattle.bundle_json_document.specs.Stream.{IsNext}
-use Rattle.bundle_json_document.proofs.Modules.{items_more, no_forms}
+use Rattle.bundle_json_document.specs.Document.{no_document_notes}
+use Rattle.bundle_json_document.specs.Stream.{IsNextValue}
+use Rattle.bundle_json_document.proofs.ByItem.{items_more, no_forms}
 use Rattle.bundle_json_document.proofs.Turns.{array_read, array_shorter, item_turn, no_item_read}
 use Rattle.bundle_json_document.proofs.stream.items.Goals as goal
 
 pub turns-init : goal.turns-init
-turns-init c = (no_items, no_item_read 123 _, subst (λ items. AreForms no_notes top no_items (flat_map (module_item_items 0) items)) (sym c.new-body.ensures.items) no_forms, omega arith)
+turns-init c = (no_items, no_item_read 123 _, subst (λ items. AreForms no_document_notes top no_items (flat_map (module_item_items 0) items)) (sym c.new-body.ensures.items) no_forms, omega arith)
 
 pub turns-preserved : goal.turns-preserved
 turns-preserved c =
@@ -21,7 +21,7 @@ turns-preserved c =
     let done = c.in_ok-more.ensures in
     let d = done.ok.0 in
     let r = c.item.new.reader in
-    let next : IsNext 123 l.reader r d = rw (← going.1) done.ok.1 in
+    let next : IsNextValue 123 l.reader r d = rw (← going.1) done.ok.1 in
     let less : length r < length l.reader = rw (← going.1) done.shorter in
     let grown : c.append.new.self.items ≡ l.items.body.items ++ c.in_ok-more.more.body.items = search rules in (
       items_then ds d,

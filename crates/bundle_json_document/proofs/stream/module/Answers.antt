@@ -2,7 +2,7 @@ use Rattle.std.proofs.Common.{◌≡◌, Some, sym, true≢false, arith}
 use Rattle.json.specs.Json.{read_key}
 use Rattle.json.proofs.Grammar.{read_key-shorter}
 use Rattle.serde_json.specs.Data.{no_members, object, put}
-use Rattle.bundle_json_document.proofs.Modules.{module_form}
+use Rattle.bundle_json_document.proofs.ByItem.{module_form}
 use Rattle.bundle_json_document.proofs.Turns.{member_turn, no_member_read, object_read, object_shorter}
 use Rattle.bundle_json_document.proofs.stream.module.Goals as goal
 

@@ -1,8 +1,7 @@
 use Rattle.std.proofs.Common.{◌≡◌, Some, arith}
 use Rattle.json.specs.Json.{read_key}
 use Rattle.serde_json.specs.Data.{no_members, put}
-use Rattle.bundle_json_document.proofs.Parts.{no_parts}
-use Rattle.bundle_json_document.proofs.Turns.{member_turn, no_member_read, object_read}
+use Rattle.bundle_json_document.proofs.Turns.{no_parts, member_turn, no_member_read, object_read}
 use Rattle.bundle_json_document.proofs.stream.read_parts.Goals as goal
 
 pub members-init : goal.members-init

@@ -2,7 +2,7 @@ use Rattle.std.proofs.Common.{sym, ap, ◌∙◌, option_map}
 use Rattle.json.specs.Value.{value_view}
 use Rattle.serde_json.specs.Read.{converted, of_json}
 use Rattle.bundle_json_document.specs.Numbers.{holds_of_read, is_whole}
-use Rattle.bundle_json_document.proofs.Refusals.{not_whole}
+use Rattle.bundle_json_document.proofs.Turns.{not_whole}
 use Rattle.bundle_json_document.proofs.Whole.{whole_read}
 use Rattle.bundle_json_document.proofs.stream.read_value.Goals as goal
 

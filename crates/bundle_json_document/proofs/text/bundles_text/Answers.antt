@@ -1,6 +1,6 @@
 use Rattle.std.proofs.Common.{◌+◌, ◌∷◌, ◌++◌, drop, string_bytes, sym, ap, ap₂, ◌∙◌, arith}
 use Rattle.std.proofs.lemmas.List.{drop_more, drop_all}
-use Rattle.bundle_json_document.proofs.Objects.{one_object, text_is}
+use Rattle.bundle_json_document.proofs.ByItem.{one_object, text_is}
 use Rattle.bundle_json_document.proofs.text.bundles_text.Goals as goal
 
 pub loop-bundle-preserved : goal.loop-bundle-preserved

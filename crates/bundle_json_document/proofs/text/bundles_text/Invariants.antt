@@ -1,6 +1,6 @@
 -- What was put in, and what is still to be put in, is the whole.
 use Rattle.std.proofs.Common.{drop, string_bytes}
-use Rattle.bundle_json_document.proofs.Objects.{AreObjects}
+use Rattle.bundle_json_document.proofs.ByItem.{AreObjects}
 use Rattle.bundle_json_document.proofs.text.bundles_text.Given as goal
 
 abbrev pub invariant-loop-bundle : goal.invariant-loop-bundle

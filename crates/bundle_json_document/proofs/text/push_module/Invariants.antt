@@ -5,4 +5,4 @@ use Rattle.bundle_json_document.proofs.text.push_module.Given as goal
 
 abbrev pub invariant-loop-item : goal.invariant-loop-item
 invariant-loop-item l =
-    ArePut (string_bytes l.initial.text) (string_bytes l.text) l.«module».body.items (drop l.item-index l.«module».body.items) l.is_later
+    ArePut (string_bytes l.initial.text) (string_bytes l.text) l.tree.body.items (drop l.item-index l.tree.body.items) l.is_later

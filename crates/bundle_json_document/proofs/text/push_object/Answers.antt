@@ -1,5 +1,5 @@
 use Rattle.std.proofs.Common.{◌++◌, string_bytes, ap, ◌∙◌, arith}
-use Rattle.bundle_json_document.proofs.Objects.{object_put}
+use Rattle.bundle_json_document.proofs.ByItem.{object_put}
 use Rattle.bundle_json_document.proofs.text.push_object.Goals as goal
 
 pub returns : goal.returns

@@ -1,6 +1,6 @@
 use Rattle.std.proofs.Common.{ap, option_map, sym, ◌∙◌}
 use Rattle.bundle_json_form.specs.Plain.{items_seen, seen}
-use Rattle.bundle_json_document.proofs.Lists.{array_found}
+use Rattle.bundle_json_document.proofs.Maps.{array_found}
 use Rattle.bundle_json_document.proofs.values.items_in.Goals as goal
 
 pub returns-in-Some-clause-ok : goal.returns-in-Some-clause-ok

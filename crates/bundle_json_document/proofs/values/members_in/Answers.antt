@@ -2,8 +2,8 @@ use Rattle.std.proofs.Common.{ap, sym, ◌∙◌}
 use Rattle.json.specs.Value.{members_view}
 use Rattle.serde_json.specs.Data.{object, no_members}
 use Rattle.bundle_json_form.specs.Plain.{plain_members, seen}
-use Rattle.bundle_json_document.proofs.Lists.{seen_object}
-use Rattle.bundle_json_document.proofs.Results.{if_ok_weaker}
+use Rattle.bundle_json_document.proofs.Maps.{seen_object}
+use Rattle.bundle_json_document.proofs.Fronts.{if_ok_weaker}
 use Rattle.bundle_json_document.proofs.values.members_in.Goals as goal
 
 pub returns-in-Object-clause-ok : goal.returns-in-Object-clause-ok

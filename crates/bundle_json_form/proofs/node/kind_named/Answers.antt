@@ -1,8 +1,8 @@
 -- The kind that may have a name has it, or none has it.
 use Rattle.std.proofs.Common.{◌≡◌, ℕ, List, Option, Some, None, false, bytes_eq, option_map, sym, ap, ◌∙◌, true≢false}
 use Rattle.std.proofs.lemmas.Slice.Eq.{bytes_eq-Decides}
-use Rattle.bundle_tree_piece.specs.declared.piece.Node.{Node}
-use Rattle.bundle_tree_piece.specs.Item.{head_of, Head}
+use Rattle.bundle_syntax.specs.declared.piece.Node.{Node}
+use Rattle.bundle_syntax.specs.Item.{head_of, Head}
 use Rattle.bundle_json_form.specs.Form as form
 use Rattle.bundle_json_form.specs.Kinds.{kind_of}
 use Rattle.bundle_json_form.proofs.OfKind.{known}

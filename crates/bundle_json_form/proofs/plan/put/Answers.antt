@@ -1,11 +1,11 @@
 use Rattle.bundle_json_form.proofs.Places.{set_member, insert_member}
 use Rattle.std.proofs.Common.{subst}
-use Rattle.bundle_json_form.specs.Plan.{planned, StandsAt, BelongsAt}
+use Rattle.bundle_json_form.specs.Plan.{planned, IsMemberAt, BelongsAt}
 use Rattle.bundle_json_form.proofs.plan.put.Goals as goal
 
 pub returns-in-Ok : goal.returns-in-Ok
 returns-in-Ok c =
-    let there = subst (λ them. StandsAt c.args.key.now (planned them) c.in-Ok.place) c.as_slice.ensures.value c.in-Ok.ensures.there in
+    let there = subst (λ them. IsMemberAt c.args.key.now (planned them) c.in-Ok.place) c.as_slice.ensures.value c.in-Ok.ensures.there in
     set_member c.args.members.now.items c.in-Ok.place (record { key = c.args.key; content = c.args.content }) there
 
 pub returns-in_ok-insert-in-Err : goal.returns-in_ok-insert-in-Err

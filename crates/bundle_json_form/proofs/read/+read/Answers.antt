@@ -1,12 +1,11 @@
 -- What is read is added, what stands in a value is smaller than it, and what is refused is no form.
 use Rattle.std.proofs.Common.{◌≡◌, ◌⊎◌, inl, inr, ap, ◌∙◌, sym, take, false, arith}
 use Rattle.std.proofs.lemmas.List.{take_all}
-use Rattle.bundle_json_form.proofs.Growth.{on_ok, list_step, field_step, no_field_step, none_there, one_there, optional_there, null_there, nothing_read, hole_read, no_field_read, node_read}
-use Rattle.bundle_json_form.proofs.Refusals.{another_name, handed, no_field, no_item, no_list_there, on_err}
+use Rattle.bundle_json_form.proofs.Growth.{on_ok, list_step, field_step, no_field_step, none_there, one_there, optional_there, null_there, nothing_read, hole_read, no_field_read, node_read, another_name, handed, no_field, no_item, no_list_there, on_err}
 use Rattle.bundle_json_form.proofs.Size.{get_smaller, item_smaller, items_smaller}
-use Rattle.bundle_tree_piece.specs.Item.{head_of}
-use Rattle.bundle_json_form.specs.Form.{fields, is_null}
-use Rattle.bundle_json_form.specs.Layout.{listed}
+use Rattle.bundle_syntax.specs.Item.{head_of}
+use Rattle.bundle_json_form.specs.Form.{node_fields, is_null}
+use Rattle.bundle_json_form.specs.Layout.{present_fields}
 use Rattle.bundle_json_form.specs.Plain.{items_seen, seen}
 use Rattle.bundle_json_form.proofs.read.+read.Goals as goal
 use Rattle.bundle_json_form.proofs.read.+read.Goals.{read_list-then-place+then-is_null+in_ok-add, read_list-else-place+in_ok-read_node, read_list-else-place-via-then-place+else-is_null, read_list-else-place-via-else-place, read_node-in-Some+in_ok-read_field, read_node-in_default}
@@ -45,7 +44,7 @@ read_node-loop-field-preserved t c =
 
 pub read_node-returns-clause-read : goal.read_node-returns-clause-read
 read_node-returns-clause-read t c =
-    let all : listed (take c.loop-field.field-index c.fields_of-field-items.result) ≡ fields (head_of c.in_ok-node.node) = ap listed (take_all c.loop-field.field-index c.fields_of-field-items.result (omega arith)) ∙ c.fields_of-field-items.ensures in
+    let all : present_fields (take c.loop-field.field-index c.fields_of-field-items.result) ≡ node_fields (head_of c.in_ok-node.node) = ap present_fields (take_all c.loop-field.field-index c.fields_of-field-items.result (omega arith)) ∙ c.fields_of-field-items.ensures in
     on_ok _ (node_read _ _ _ _ _ _ _ _ _ c.in_ok-node.ensures.read all c.in_ok-add.ensures.added c.loop-field.invariant) c.add-2.ensures.added
 
 pub read_field-returns-in-Optional-clause-read : goal.read_field-returns-in-Optional-clause-read

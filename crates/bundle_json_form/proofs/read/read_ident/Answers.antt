@@ -1,6 +1,5 @@
 -- An identifier is read where its symbol is there.
-use Rattle.bundle_json_form.proofs.Growth.{ident_read, on_ok}
-use Rattle.bundle_json_form.proofs.Refusals.{no_symbol, refused_for}
+use Rattle.bundle_json_form.proofs.Growth.{ident_read, on_ok, no_symbol, refused_for}
 use Rattle.bundle_json_form.proofs.read.read_ident.Goals as goal
 
 pub returns-clause-read : goal.returns-clause-read

@@ -1,6 +1,6 @@
 -- A value is the form of one list at most.
 use Rattle.std.proofs.Common.{map, ap}
-use Rattle.bundle_tree_piece.specs.Item.{item_of}
+use Rattle.bundle_syntax.specs.Item.{item_of}
 use Rattle.bundle_json_form.proofs.Unique.{only_read}
 use Rattle.bundle_json_form.proofs.read.read_module.Goals as goal
 

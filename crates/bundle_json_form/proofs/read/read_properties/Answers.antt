@@ -1,7 +1,7 @@
 -- What is refused is no list of forms; a value is that of one list at most.
 use Rattle.std.proofs.Common.{ap, map, sym}
-use Rattle.bundle_tree_piece.specs.Item.{item_of}
-use Rattle.bundle_json_form.proofs.Refusals.{handed, no_forms}
+use Rattle.bundle_syntax.specs.Item.{item_of}
+use Rattle.bundle_json_form.proofs.Growth.{handed, no_forms}
 use Rattle.bundle_json_form.proofs.Unique.{only_read_each}
 use Rattle.bundle_json_form.proofs.read.read_properties.Goals as goal
 

@@ -1,5 +1,5 @@
 use Rattle.std.proofs.Common.{◌∙◌, sym}
-use Rattle.bundle_json_form.proofs.Plain.{as_str-plain}
+use Rattle.bundle_json_form.proofs.Growth.{as_str-plain}
 use Rattle.bundle_json_form.proofs.seen.as_str.Goals as goal
 
 pub returns : goal.returns

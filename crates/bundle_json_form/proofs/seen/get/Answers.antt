@@ -3,7 +3,7 @@ use Rattle.json.specs.Find as find
 use Rattle.json.specs.Value.{members_view, value_view}
 use Rattle.json.proofs.Trees.{view-Object}
 use Rattle.bundle_json_form.specs.Plain.{plain}
-use Rattle.bundle_json_form.proofs.Plain.{get-plain, seen_of}
+use Rattle.bundle_json_form.proofs.Growth.{get-plain, seen_of}
 use Rattle.bundle_json_form.proofs.seen.get.Goals as goal
 
 pub returns-in-Object : goal.returns-in-Object

@@ -1,5 +1,5 @@
 use Rattle.std.proofs.Common.{◌∙◌, sym}
-use Rattle.bundle_json_form.proofs.Plain.{is_null-plain}
+use Rattle.bundle_json_form.proofs.Growth.{is_null-plain}
 use Rattle.bundle_json_form.proofs.seen.is_null.Goals as goal
 
 pub returns : goal.returns

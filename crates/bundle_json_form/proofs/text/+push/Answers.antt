@@ -1,6 +1,6 @@
 -- What is put in is the form.
 use Rattle.std.proofs.Common.{◌+◌, ◌∷◌, ◌++◌, string_bytes, sym, ap, ◌∙◌, arith}
-use Rattle.bundle_tree_piece.specs.Item.{head_of, item_of}
+use Rattle.bundle_syntax.specs.Item.{head_of, item_of}
 use Rattle.bundle_json_form.specs.Texts.{from}
 use Rattle.bundle_json_form.proofs.Growth.{on_ok}
 use Rattle.bundle_json_form.proofs.Pieces.{list_is, node_first, one_member, passed, piece_at, put_one}

@@ -1,4 +1,4 @@
-use Rattle.bundle_json_form.proofs.After.{after_end, after_last}
+use Rattle.bundle_json_form.proofs.OfKind.{after_end, after_last}
 use Rattle.bundle_json_form.proofs.Pieces.{from_end, piece_at}
 use Rattle.bundle_json_form.proofs.text.after_first.Goals as goal
 

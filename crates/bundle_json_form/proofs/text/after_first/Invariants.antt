@@ -1,7 +1,7 @@
 -- What is left of the list, with the nodes that are open, gives what the list gives.
 use Rattle.std.proofs.Common.{◌≡◌, ◌+◌, ◌-◌, ◌≤◌, length}
 use Rattle.bundle_json_form.specs.Texts.{from}
-use Rattle.bundle_json_form.proofs.After.{past}
+use Rattle.bundle_json_form.proofs.OfKind.{past}
 use Rattle.bundle_json_form.proofs.text.after_first.Given as goal
 
 abbrev pub invariant-pieces : goal.invariant-pieces

@@ -1,5 +1,5 @@
 use Rattle.std.proofs.Common.{◌++◌, string_bytes, ap, ◌∙◌, arith}
-use Rattle.bundle_json_form.proofs.Idents.{ident_put}
+use Rattle.bundle_json_form.proofs.Unique.{ident_put}
 use Rattle.bundle_json_form.proofs.text.push_ident.Goals as goal
 
 pub returns : goal.returns

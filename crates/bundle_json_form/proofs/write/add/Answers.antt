@@ -1,5 +1,5 @@
 use Rattle.std.proofs.Common.{refl}
-use Rattle.bundle_json_form.proofs.Frames.{one_more_child}
+use Rattle.bundle_json_form.proofs.Unique.{one_more_child}
 use Rattle.bundle_json_form.proofs.write.add.Goals as goal
 
 pub returns-in_ok-push : goal.returns-in_ok-push

@@ -1,6 +1,6 @@
 -- What is still to be run through gives what the whole list gives.
 use Rattle.std.proofs.Common.{◌≡◌, [], map, drop}
-use Rattle.bundle_tree_piece.specs.Item.{item_of}
+use Rattle.bundle_syntax.specs.Item.{item_of}
 use Rattle.bundle_json_form.specs.Writing.{frames}
 use Rattle.bundle_json_form.proofs.Run.{run}
 use Rattle.bundle_json_form.proofs.write.tree_value.Given as goal

@@ -2,8 +2,8 @@
 use Rattle.std.proofs.Common.{◌≡◌, List, length, ap, sym, ◌∙◌, subst}
 use Rattle.std.proofs.lemmas.Slice.Zip.{AllZip-long}
 use Rattle.bundle_rules.specs.Nodes.{numbers_once}
-use Rattle.bundle_link_reached.specs.Numbered as n
-use Rattle.bundle_link_reached.specs.declared.module.NumberedModule.{NumberedModule}
+use Rattle.bundle_link.specs.Numbered as n
+use Rattle.bundle_link.specs.declared.module.NumberedModule.{NumberedModule}
 use Rattle.bundle_link.specs.Programs.{HasTables}
 use Rattle.bundle_link.proofs.ProgramLemmas.{are-faultless, are_numbered}
 use Rattle.bundle_link.proofs.link.linked_modules.Goals as goal
@@ -19,7 +19,7 @@ returns-clause-linked c = λ p w.
     let require = c.setting_of.result.require in
     let long : length c.deref.result.now ≡ length modules = ap length c.deref.ensures.value ∙ AllZip-long (HasTables config) modules tables read in
     let known = are_numbered p modules config entry w tables read numbered require (c.in_ok-numbered.ensures.ids long) (c.in_ok-numbered.ensures.deps long) (c.in_ok-numbered.ensures.tables long ∙ c.deref.ensures.value) c.setting_of.ensures.require in
-    c.in_ok-new.ensures.linked p (subst (λ (ms : List NumberedModule). n.AreModulesOf p ms entry require) (sym c.deref-2.ensures.value) known) (w.iife ∙ sym c.setting_of.ensures.iife)
+    c.in_ok-new.ensures.linked p (subst (λ (ms : List NumberedModule). n.AreNumberedOf p ms entry require) (sym c.deref-2.ensures.value) known) (w.iife ∙ sym c.setting_of.ensures.iife)
 
 pub returns-clause-ids : goal.returns-clause-ids
 returns-clause-ids c =

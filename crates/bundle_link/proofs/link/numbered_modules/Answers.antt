@@ -1,6 +1,6 @@
 use Rattle.std.proofs.Common.{◌≡◌, ◌⊎◌, inl, inr, length}
-use Rattle.bundle_link_reached.specs.declared.module.NumberedModule.{NumberedModule}
-use Rattle.bundle_link_reached.proofs.ZipLemmas.{first_all, second_all}
+use Rattle.bundle_link.specs.declared.module.NumberedModule.{NumberedModule}
+use Rattle.bundle_link.proofs.NumbersLemmas.{first_all, second_all}
 use Rattle.bundle_link.specs.declared.transformed.TransformedModule.{TransformedModule}
 use Rattle.bundle_link.proofs.link.numbered_modules.Goals as goal
 

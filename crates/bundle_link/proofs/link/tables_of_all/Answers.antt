@@ -6,7 +6,7 @@ use Rattle.std.proofs.lemmas.Option.{slice_get_read}
 use Rattle.std.proofs.lemmas.Result.{err_from_is_err_and}
 use Rattle.bundle_link.specs.Programs.{HasTables}
 use Rattle.bundle_link.specs.declared.transformed.TransformedModule.{TransformedModule}
-use Rattle.bundle_link.proofs.FileLemmas.{at_own}
+use Rattle.bundle_link_index.proofs.ProgramLemmas.{got_there as at_own}
 use Rattle.bundle_link.proofs.link.tables_of_all.Goals as goal
 
 pub returns-in_err-read-clause-refused : goal.returns-in_err-read-clause-refused

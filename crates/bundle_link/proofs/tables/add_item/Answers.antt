@@ -1,5 +1,5 @@
 -- An export with a new name goes last.
-use Rattle.bundle_link.proofs.ItemLemmas.{added}
+use Rattle.bundle_link.proofs.ProgramLemmas.{added}
 use Rattle.bundle_link.proofs.tables.add_item.Goals as goal
 
 pub returns : goal.returns

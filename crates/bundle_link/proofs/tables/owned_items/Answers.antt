@@ -1,5 +1,5 @@
 -- An export more is there.
-use Rattle.bundle_link.proofs.ItemLemmas.{next_item}
+use Rattle.bundle_link.proofs.ProgramLemmas.{next_item}
 use Rattle.bundle_link.proofs.tables.owned_items.Goals as goal
 
 pub loop-export-preserved : goal.loop-export-preserved

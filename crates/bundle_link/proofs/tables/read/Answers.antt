@@ -1,7 +1,7 @@
 -- The list is that of the module.
 use Rattle.std.proofs.Common.{ap, ◌∙◌, subst, map}
 use Rattle.std.proofs.lemmas.Result.{IfErr-weaker, IfOk-weaker}
-use Rattle.bundle_tree_piece.specs.Item.{item_of}
+use Rattle.bundle_syntax.specs.Item.{item_of}
 use Rattle.bundle_tree_names.specs.FileName.{name_of}
 use Rattle.bundle_link.specs.Read.{AreTablesOf}
 use Rattle.bundle_link.specs.Refusals.{IsTreeRefusal}

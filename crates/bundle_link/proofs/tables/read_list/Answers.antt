@@ -2,7 +2,7 @@
 use Rattle.std.proofs.Common.{ap, sym, ◌∙◌, subst, map, string_bytes}
 use Rattle.std.specs.Prelude.{IfSome}
 use Rattle.bundle_tree_names.specs.FileName.{name_of}
-use Rattle.bundle_tree_piece.specs.Item.{item_of}
+use Rattle.bundle_syntax.specs.Item.{item_of}
 use Rattle.bundle_link_tables.specs.Sources.{told_external}
 use Rattle.bundle_rules.specs.Entries.{declared_requests}
 use Rattle.bundle_rules.specs.Faults.{IsFirstTreeFault}

@@ -1,13 +1,10 @@
 -- The list is that of the module, and the texts are those that it asks for.
-use Rattle.std.proofs.Common.{◌≡◌, ap, ◌∙◌, subst, map}
-use Rattle.std.proofs.lemmas.Result.{IfErr-weaker}
+use Rattle.std.proofs.Common.{ap, ◌∙◌, subst, map}
 use Rattle.bundle_tree_names.specs.FileName.{name_of}
-use Rattle.bundle_tree_piece.specs.Item.{item_of}
-use Rattle.bundle_tree_listed.specs.Tree.{module_items}
+use Rattle.bundle_syntax.specs.Item.{item_of}
 use Rattle.bundle_rules.specs.Bound.{is_free}
 use Rattle.bundle_rules.specs.Entries.{requests_of}
 use Rattle.bundle_rules.specs.Faults.{IsFaultless}
-use Rattle.bundle_link.specs.Refusals.{IsTreeRefusal}
 use Rattle.bundle_link.proofs.tables.requests_of.Goals as goal
 
 pub returns-clause-given : goal.returns-clause-given

@@ -1,6 +1,6 @@
 use Rattle.std.proofs.Common.{◌++◌, ap, sym, ◌∙◌, subst, append_assoc, map, take}
 use Rattle.std.proofs.lemmas.List.{append-nil, take_all}
-use Rattle.bundle_link_tables.proofs.LocalLemmas.{one_more}
+use Rattle.bundle_link_tables.proofs.MarkLemmas.{one_more}
 use Rattle.bundle_link_index.specs.Leads.{lead_of}
 use Rattle.bundle_link_index.specs.Numbered.{HoldsAt, note}
 use Rattle.bundle_link_index.proofs.index.add_entries.Goals as goal

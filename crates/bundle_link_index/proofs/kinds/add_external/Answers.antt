@@ -1,8 +1,8 @@
 -- One text more, or none.
 use Rattle.std.proofs.Common.{◌++◌, append-nil, ap, sym, ◌∙◌, rules}
 use Rattle.bundle_rules.specs.Nodes.{has_text}
-use Rattle.bundle_link_tables.proofs.OnceLemmas.{texts_put}
-use Rattle.bundle_link_index.proofs.HandedLemmas.{external_here, external_none}
+use Rattle.bundle_link_tables.proofs.MarkLemmas.{texts_put}
+use Rattle.bundle_link_index.proofs.ProgramLemmas.{external_here, external_none}
 use Rattle.bundle_link_index.proofs.kinds.add_external.Goals as goal
 
 pub returns-then-source : goal.returns-then-source

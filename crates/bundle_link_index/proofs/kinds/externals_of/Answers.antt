@@ -2,7 +2,7 @@ use Rattle.std.proofs.Common.{◌++◌, ap, ◌∙◌, take}
 use Rattle.std.specs.List.{flat_map}
 use Rattle.bundle_rules.specs.Nodes.{has_text}
 use Rattle.bundle_link_index.specs.Handed.{external_one, externals_by, externals_of}
-use Rattle.bundle_link_index.proofs.HandedLemmas.{flat_more}
+use Rattle.bundle_link_tables.proofs.MarkLemmas.{flat_next as flat_more}
 use Rattle.bundle_link_index.proofs.kinds.externals_of.Goals as goal
 
 pub loop-module-preserved : goal.loop-module-preserved

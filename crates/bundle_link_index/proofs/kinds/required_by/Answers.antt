@@ -1,8 +1,8 @@
-use Rattle.std.proofs.Common.{◌++◌, ap, sym, ◌∙◌, nat_eq, take}
+use Rattle.std.proofs.Common.{◌++◌, ap, ◌∙◌, nat_eq, take}
 use Rattle.std.specs.Prelude.{slice_get}
 use Rattle.std.specs.List.{list_any}
 use Rattle.bundle_link_index.specs.Handed.{required_by, required_from}
-use Rattle.bundle_link_index.proofs.HandedLemmas.{flat_more}
+use Rattle.bundle_link_tables.proofs.MarkLemmas.{flat_next as flat_more}
 use Rattle.bundle_link_index.proofs.kinds.required_by.Goals as goal
 
 pub loop-number-preserved : goal.loop-number-preserved

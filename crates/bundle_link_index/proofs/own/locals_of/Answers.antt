@@ -3,7 +3,7 @@ use Rattle.std.proofs.Common.{◌+◌, ap, ◌∙◌, map, subst, sym, take}
 use Rattle.bundle_rules.specs.Entries.{import_of}
 use Rattle.bundle_link_tables.specs.Exported.{Finds}
 use Rattle.bundle_link_tables.specs.TablesOf.{import_entry_of}
-use Rattle.bundle_link_tables.proofs.LocalLemmas.{one_more}
+use Rattle.bundle_link_tables.proofs.MarkLemmas.{one_more}
 use Rattle.bundle_link_index.proofs.own.locals_of.Goals as goal
 
 pub loop-import-preserved : goal.loop-import-preserved

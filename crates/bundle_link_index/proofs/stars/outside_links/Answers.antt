@@ -1,6 +1,6 @@
-use Rattle.std.proofs.Common.{subst, take}
+use Rattle.std.proofs.Common.{subst}
 use Rattle.std.proofs.lemmas.List.{take_all}
-use Rattle.bundle_link_search.specs.Graph.{graph_of}
+use Rattle.bundle_link_index.specs.Graph.{graph_of}
 use Rattle.bundle_link_index.specs.Leads.{lead_of}
 use Rattle.bundle_link_index.specs.Outside.{IsOutsideOf}
 use Rattle.bundle_link_index.proofs.OutsideLemmas.{outside_begins, outside_module}

@@ -5,7 +5,7 @@ use Rattle.bundle_rules.specs.Faults.{asked_by_import}
 use Rattle.bundle_link_tables.specs.Exported.{import_by}
 use Rattle.bundle_tree_places.specs.Parted.{part_items}
 use Rattle.bundle_link_tables.specs.TablesOf.{asked_name_of, import_entry_of}
-use Rattle.bundle_link_tables.proofs.AskedLemmas.{imports_alone}
+use Rattle.bundle_link_tables.proofs.ExportLemmas.{imports_alone}
 use Rattle.bundle_link_tables.proofs.asked.asked_by.Goals as goal
 
 pub returns : goal.returns

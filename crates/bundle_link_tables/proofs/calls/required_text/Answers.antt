@@ -1,6 +1,6 @@
 -- What follows a call, the name and an argument, one after the other.
 use Rattle.std.proofs.Common.{ap, ◌∙◌, map}
-use Rattle.bundle_tree_piece.specs.Item.{item_of}
+use Rattle.bundle_syntax.specs.Item.{item_of}
 use Rattle.bundle_rules.specs.Entries.{after, is_call, is_plain_argument, is_require_name, only_argument}
 use Rattle.bundle_link_tables.proofs.CallLemmas.{after_told}
 use Rattle.bundle_link_tables.proofs.calls.required_text.Goals as goal

@@ -1,7 +1,7 @@
 -- All but the first.
 use Rattle.std.proofs.Common.{ap, sym, ◌∙◌, map}
 use Rattle.std.proofs.lemmas.List.{drop-map}
-use Rattle.bundle_tree_piece.specs.Item.{item_of}
+use Rattle.bundle_syntax.specs.Item.{item_of}
 use Rattle.bundle_link_tables.proofs.calls.tail.Goals as goal
 
 pub returns : goal.returns

@@ -1,13 +1,12 @@
 -- What the top items import and give is what the module does, by its imports.
 use Rattle.std.proofs.Common.{◌≡◌, ap, ◌∙◌, map}
-use Rattle.bundle_tree_piece.specs.Item.{item_of}
+use Rattle.bundle_syntax.specs.Item.{item_of}
 use Rattle.bundle_rules.specs.Entries.{import_of, imports_of}
 use Rattle.bundle_link_tables.specs.Exported.{import_by}
 use Rattle.bundle_tree_places.specs.Parted.{part_items}
 use Rattle.bundle_link_tables.specs.Sources.{has_external}
 use Rattle.bundle_link_tables.specs.TablesOf.{import_entry_of}
-use Rattle.bundle_link_tables.proofs.AskedLemmas.{asked_placed}
-use Rattle.bundle_link_tables.proofs.ExportLemmas.{exports_placed, imports_found, requests_placed, stars_placed}
+use Rattle.bundle_link_tables.proofs.ExportLemmas.{asked_placed, exports_placed, imports_found, requests_placed, stars_placed}
 use Rattle.bundle_link_tables.proofs.ImportLemmas.{declared_placed, imports_placed}
 use Rattle.bundle_link_tables.proofs.ListedLemmas.{listed_placed}
 use Rattle.bundle_link_tables.proofs.entries.entries_of.Goals as goal

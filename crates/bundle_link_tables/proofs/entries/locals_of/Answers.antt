@@ -2,7 +2,7 @@
 use Rattle.std.proofs.Common.{ap, ◌∙◌, map, take}
 use Rattle.bundle_rules.specs.Entries.{import_of}
 use Rattle.bundle_link_tables.specs.TablesOf.{import_entry_of}
-use Rattle.bundle_link_tables.proofs.LocalLemmas.{one_more}
+use Rattle.bundle_link_tables.proofs.MarkLemmas.{one_more}
 use Rattle.bundle_link_tables.proofs.entries.locals_of.Goals as goal
 
 pub loop-import-preserved : goal.loop-import-preserved

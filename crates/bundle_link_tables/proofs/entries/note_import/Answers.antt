@@ -1,6 +1,6 @@
 -- A new name is noted, and one that was noted stays.
 use Rattle.std.proofs.Common.{rules}
-use Rattle.bundle_link_tables.proofs.LocalLemmas.{finds_kept, finds_noted}
+use Rattle.bundle_link_tables.proofs.MarkLemmas.{finds_kept, finds_noted}
 use Rattle.bundle_link_tables.proofs.entries.note_import.Goals as goal
 
 pub returns-in_ok-insert : goal.returns-in_ok-insert

@@ -1,6 +1,6 @@
 -- The name of one element goes behind those before it.
 use Rattle.std.proofs.Common.{◌+◌, ◌++◌, ◌∷◌, [], ap, sym, ◌∙◌, arith, map, drop, get_or, append-nil}
-use Rattle.bundle_tree_piece.specs.Item.{item_of}
+use Rattle.bundle_syntax.specs.Item.{item_of}
 use Rattle.bundle_rules.specs.Entries.{names_bound}
 use Rattle.bundle_link_tables.specs.Exported.{locals_named, text_list}
 use Rattle.bundle_link_tables.specs.TablesOf.{export_entry_of}

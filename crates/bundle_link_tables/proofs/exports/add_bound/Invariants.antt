@@ -1,6 +1,6 @@
 -- The names that were found, and those that are ahead.
 use Rattle.std.proofs.Common.{◌≡◌, ◌++◌, ◌≤◌, zero, map, drop}
-use Rattle.bundle_tree_piece.specs.Item.{item_of}
+use Rattle.bundle_syntax.specs.Item.{item_of}
 use Rattle.bundle_rules.specs.Entries.{names_bound}
 use Rattle.bundle_link_tables.specs.Exported.{locals_named}
 use Rattle.bundle_link_tables.specs.TablesOf.{export_entry_of}

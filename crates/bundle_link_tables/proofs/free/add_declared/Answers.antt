@@ -2,7 +2,7 @@
 use Rattle.std.proofs.Common.{◌++◌, append-nil, ap, sym, ◌∙◌}
 use Rattle.bundle_rules.specs.Nodes.{has_text}
 use Rattle.bundle_link_tables.specs.Exported.{text_list}
-use Rattle.bundle_link_tables.proofs.OnceLemmas.{texts_put}
+use Rattle.bundle_link_tables.proofs.MarkLemmas.{texts_put}
 use Rattle.bundle_link_tables.proofs.free.add_declared.Goals as goal
 
 pub returns-in_ok-insert-in-Some : goal.returns-in_ok-insert-in-Some

@@ -1,7 +1,7 @@
 -- The entries tell it.
 use Rattle.std.proofs.Common.{◌∙◌, map}
-use Rattle.bundle_tree_piece.specs.Item.{item_of}
-use Rattle.bundle_link_tables.proofs.FreeLemmas.{has_free_told}
+use Rattle.bundle_syntax.specs.Item.{item_of}
+use Rattle.bundle_link_tables.proofs.CallLemmas.{has_free_told}
 use Rattle.bundle_link_tables.proofs.free.has_free.Goals as goal
 
 pub returns : goal.returns

@@ -1,9 +1,9 @@
 -- An element more was passed.
 use Rattle.std.proofs.Common.{ap, sym, ◌∙◌, map, arith}
-use Rattle.bundle_tree_piece.specs.declared.piece.Piece.TheVariants as p
-use Rattle.bundle_tree_piece.specs.Item.{item_of}
+use Rattle.bundle_syntax.specs.declared.piece.Piece.TheVariants as p
+use Rattle.bundle_syntax.specs.Item.{item_of}
 use Rattle.bundle_link_tables.specs.Free.{names_nothing}
-use Rattle.bundle_link_tables.proofs.NamelessLemmas.{nameless_here, nameless_past, nameless_end}
+use Rattle.bundle_link_tables.proofs.ToldLemmas.{nameless_here, nameless_past, nameless_end}
 use Rattle.bundle_link_tables.proofs.free.has_nameless_default.Goals as goal
 
 pub returns-then-begins_nameless : goal.returns-then-begins_nameless

@@ -1,6 +1,6 @@
 -- None stands before the place.
 use Rattle.std.proofs.Common.{◌≡◌, drop, map}
-use Rattle.bundle_tree_piece.specs.Item.{item_of}
+use Rattle.bundle_syntax.specs.Item.{item_of}
 use Rattle.bundle_link_tables.specs.Free.{has_nameless_default}
 use Rattle.bundle_link_tables.proofs.free.has_nameless_default.Given as goal
 

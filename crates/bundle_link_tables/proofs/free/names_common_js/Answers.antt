@@ -1,6 +1,6 @@
 -- Each of the three names is asked for.
 use Rattle.std.proofs.Common.{◌||◌, ap, ◌∙◌, map, codes}
-use Rattle.bundle_tree_piece.specs.Item.{item_of}
+use Rattle.bundle_syntax.specs.Item.{item_of}
 use Rattle.bundle_rules.specs.Bound.{has_free}
 use Rattle.bundle_link_tables.proofs.free.names_common_js.Goals as goal
 

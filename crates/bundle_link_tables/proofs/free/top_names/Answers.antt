@@ -2,11 +2,11 @@
 use Rattle.std.proofs.Common.{◌≡◌, true, false, ◌++◌, ◌∷◌, [], ap, sym, append-nil, ◌∙◌, map, rules}
 use Rattle.std.specs.Prelude.{if◌then◌else◌}
 use Rattle.std.specs.List.{flat_map}
-use Rattle.bundle_tree_piece.specs.Item.{item_of}
+use Rattle.bundle_syntax.specs.Item.{item_of}
 use Rattle.bundle_rules.specs.Nodes.{has_text}
 use Rattle.bundle_rules.specs.Statements.{default_name}
 use Rattle.bundle_link_tables.specs.Free.{declared_at_top, has_nameless_default}
-use Rattle.bundle_link_tables.proofs.OnceLemmas.{texts_put}
+use Rattle.bundle_link_tables.proofs.MarkLemmas.{texts_put}
 use Rattle.bundle_link_tables.proofs.free.top_names.Goals as goal
 
 pub returns-then-not-has_nameless_default : goal.returns-then-not-has_nameless_default

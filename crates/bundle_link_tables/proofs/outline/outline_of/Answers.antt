@@ -1,6 +1,6 @@
 -- What the top items give and ask for is what the module does.
 use Rattle.std.proofs.Common.{refl, ap, ◌∙◌, map}
-use Rattle.bundle_tree_piece.specs.Item.{item_of}
+use Rattle.bundle_syntax.specs.Item.{item_of}
 use Rattle.bundle_rules.specs.Entries.{import_of, imports_of}
 use Rattle.bundle_rules.specs.Faults.{entry_name}
 use Rattle.bundle_tree_places.specs.Parted.{part_items}

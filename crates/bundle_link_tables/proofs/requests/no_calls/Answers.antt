@@ -1,6 +1,6 @@
 -- The fault that is told is the first, and where none is told there is none.
 use Rattle.std.proofs.Common.{List, ap, ◌∙◌, map}
-use Rattle.bundle_tree_piece.specs.Item.{item_of}
+use Rattle.bundle_syntax.specs.Item.{item_of}
 use Rattle.bundle_rules.specs.Faults.{entry_name}
 use Rattle.bundle_link_tables.specs.declared.table.Export.{Export}
 use Rattle.bundle_link_tables.specs.TablesOf.{export_entry_of}

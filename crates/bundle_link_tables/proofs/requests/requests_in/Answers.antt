@@ -1,12 +1,12 @@
 -- What is asked for is told by the calls that are linked, and the fault with them.
 use Rattle.std.proofs.Common.{◌++◌, ap, sym, ◌∙◌, map, string_bytes}
-use Rattle.bundle_tree_piece.specs.Item.{item_of}
+use Rattle.bundle_syntax.specs.Item.{item_of}
 use Rattle.bundle_rules.specs.Bound.{is_free}
 use Rattle.bundle_rules.specs.Nodes.{each_once, has_text}
 use Rattle.bundle_link_tables.specs.declared.table.RequireCall.{RequireCall}
 use Rattle.bundle_link_tables.specs.Sources.{unexternal}
 use Rattle.bundle_link_tables.proofs.ExportLemmas.{told_all}
-use Rattle.bundle_link_tables.proofs.RequestLemmas.{requested}
+use Rattle.bundle_link_tables.proofs.SourceLemmas.{requested}
 use Rattle.bundle_link_tables.proofs.requests.requests_in.Goals as goal
 
 pub returns-in-Ok-clause-requests : goal.returns-in-Ok-clause-requests

@@ -2,7 +2,7 @@
 use Rattle.std.proofs.Common.{◌++◌, ap, sym, ◌∙◌}
 use Rattle.bundle_rules.specs.Nodes.{each_once}
 use Rattle.bundle_link_tables.specs.Exported.{text_list}
-use Rattle.bundle_link_tables.proofs.OnceLemmas.{once_put}
+use Rattle.bundle_link_tables.proofs.MarkLemmas.{once_put}
 use Rattle.bundle_link_tables.proofs.sources.add_star.Goals as goal
 
 pub returns-in_ok-insert : goal.returns-in_ok-insert

@@ -2,11 +2,11 @@
 use Rattle.std.proofs.Common.{◌≡◌, Some, length, length-set, map, refl, sym, ap, ◌∙◌, slice_get, subst, arith}
 use Rattle.std.specs.Option.{option_map}
 use Rattle.std.proofs.lemmas.Option.{slice_get-map, slice_get_read}
-use Rattle.bundle_tree_piece.specs.Item.{item_of}
+use Rattle.bundle_syntax.specs.Item.{item_of}
 use Rattle.bundle_rules.specs.Places.{Spot, spot_before}
 use Rattle.bundle_rules.proofs.PlacesLemmas.{spot_before-next}
-use Rattle.bundle_link_tables.specs.Within.{IsWithin}
-use Rattle.bundle_link_tables.proofs.WithinLemmas.{marked_next}
+use Rattle.bundle_link_tables.specs.Within.{IsWithinItem}
+use Rattle.bundle_link_tables.proofs.ListedLemmas.{marked_next}
 use Rattle.bundle_link_tables.proofs.stated.stated_places.Goals as goal
 
 pub loop-place-preserved : goal.loop-place-preserved
@@ -21,6 +21,6 @@ loop-place-preserved c =
     record {
       long = length-set c.loop-place.stated.items n c.is_stated.result ∙ inv.long;
       marked = marked_next tree c.loop-place.stated.items n c.is_stated.result (omega (arith, c.loop-place-test.true, inv.long)) (c.is_stated.ensures before.path inv.within) inv.marked;
-      within = subst (λ (s : Spot). IsWithin c.step_past-within.result s.path) (sym (spot_before-next tree n (item_of piece) at)) (c.step_past-within.ensures.within before.place before.path inv.within);
+      within = subst (λ (s : Spot). IsWithinItem c.step_past-within.result s.path) (sym (spot_before-next tree n (item_of piece) at)) (c.step_past-within.ensures.within before.place before.path inv.within);
       deep = let step = c.step_past-within.ensures.depth in let deep = inv.deep in omega (arith, step, deep);
     }

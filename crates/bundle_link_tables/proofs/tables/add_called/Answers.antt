@@ -1,5 +1,5 @@
 -- One text more.
-use Rattle.bundle_link_tables.proofs.OnceLemmas.{once_put}
+use Rattle.bundle_link_tables.proofs.MarkLemmas.{once_put}
 use Rattle.bundle_link_tables.proofs.tables.add_called.Goals as goal
 
 pub returns : goal.returns

@@ -1,7 +1,7 @@
 -- One text more, or none.
 use Rattle.std.proofs.Common.{◌++◌, append-nil, ap, sym, ◌∙◌, rules}
 use Rattle.bundle_rules.specs.Nodes.{each_once}
-use Rattle.bundle_link_tables.proofs.OnceLemmas.{once_put}
+use Rattle.bundle_link_tables.proofs.MarkLemmas.{once_put}
 use Rattle.bundle_link_tables.proofs.SourceLemmas.{asked_here, asked_outside}
 use Rattle.bundle_link_tables.proofs.tables.add_request.Goals as goal
 

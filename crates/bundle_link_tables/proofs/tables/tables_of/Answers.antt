@@ -1,24 +1,24 @@
 -- The tables of the list by the texts of the call, or its first fault.
 use Rattle.std.proofs.Common.{◌≡◌, List, None, rules, ap, sym, ◌∙◌, map, string_bytes}
 use Rattle.std.specs.Borrow.{Bor}
-use Rattle.bundle_tree_piece.specs.Item.{item_of}
+use Rattle.bundle_syntax.specs.Item.{item_of}
 use Rattle.bundle_rules.specs.Bound.{is_free}
 use Rattle.bundle_rules.specs.Nodes.{Text, has_text}
 use Rattle.bundle_rules.specs.Faults.{entry_name}
 use Rattle.bundle_link_tables.specs.declared.table.Export.{Export}
-use Rattle.bundle_link_tables.specs.Sources.{asked}
-use Rattle.bundle_link_tables.specs.Listed.{listed_as}
+use Rattle.bundle_link_tables.specs.Sources.{source_asked}
+use Rattle.bundle_link_tables.specs.Listed.{export_listed_as}
 use Rattle.bundle_link_tables.specs.TablesOf.{export_entry_of}
 use Rattle.bundle_link_tables.specs.Used.{use_entry_of}
 use Rattle.bundle_link_tables.proofs.ExportLemmas.{told_all}
-use Rattle.bundle_link_tables.proofs.RequestLemmas.{requested}
+use Rattle.bundle_link_tables.proofs.SourceLemmas.{requested}
 use Rattle.bundle_link_tables.proofs.ToldLemmas.{found_first, found_none, told_by_tree}
 use Rattle.bundle_link_tables.proofs.tables.tables_of.Goals as goal
 
 pub returns-clause-sources : goal.returns-clause-sources
 returns-clause-sources c =
     let texts = map string_bytes c.args.external.now in
-    ap (map asked) c.put_together.ensures.sources ∙ c.in_ok-entries.ensures.sources ∙ told_all c.in_ok-external.external texts _ c.in_ok-external.ensures
+    ap (map source_asked) c.put_together.ensures.sources ∙ c.in_ok-entries.ensures.sources ∙ told_all c.in_ok-external.external texts _ c.in_ok-external.ensures
 
 pub returns-clause-requests : goal.returns-clause-requests
 returns-clause-requests c = λ settings same said is.
@@ -35,13 +35,13 @@ returns-clause-judged c = λ file is.
     let none : c.in_ok-first.first ≡ None = search rules in
     let tree = map item_of c.args.pieces.now in
     found_none file tree c.in_ok-first.first none
-    (c.in_ok-first.ensures file ∙ told_by_tree file tree c.args.denotations.now (map export_entry_of c.deref.result.now) (map listed_as c.deref-2.result.now) c.in_ok-rare.rare.with is (ap (λ (l : List Export). map entry_name (map export_entry_of l)) c.deref.ensures.value ∙ ap (map entry_name) c.in_ok-entries.ensures.exports) (ap (map listed_as) c.deref-2.ensures.value ∙ c.in_ok-entries.ensures.listed) c.in_ok-rare.ensures.with)
+    (c.in_ok-first.ensures file ∙ told_by_tree file tree c.args.denotations.now (map export_entry_of c.deref.result.now) (map export_listed_as c.deref-2.result.now) c.in_ok-rare.rare.with is (ap (λ (l : List Export). map entry_name (map export_entry_of l)) c.deref.ensures.value ∙ ap (map entry_name) c.in_ok-entries.ensures.exports) (ap (map export_listed_as) c.deref-2.ensures.value ∙ c.in_ok-entries.ensures.listed) c.in_ok-rare.ensures.with)
 
 pub returns-in-Some-clause-judged : goal.returns-in-Some-clause-judged
 returns-in-Some-clause-judged c = λ file is.
     let tree = map item_of c.args.pieces.now in
     found_first file tree c.in_ok-first.first c.in-Some.fault c.in-Some.is
-    (c.in_ok-first.ensures file ∙ told_by_tree file tree c.args.denotations.now (map export_entry_of c.deref.result.now) (map listed_as c.deref-2.result.now) c.in_ok-rare.rare.with is (ap (λ (l : List Export). map entry_name (map export_entry_of l)) c.deref.ensures.value ∙ ap (map entry_name) c.in_ok-entries.ensures.exports) (ap (map listed_as) c.deref-2.ensures.value ∙ c.in_ok-entries.ensures.listed) c.in_ok-rare.ensures.with)
+    (c.in_ok-first.ensures file ∙ told_by_tree file tree c.args.denotations.now (map export_entry_of c.deref.result.now) (map export_listed_as c.deref-2.result.now) c.in_ok-rare.rare.with is (ap (λ (l : List Export). map entry_name (map export_entry_of l)) c.deref.ensures.value ∙ ap (map entry_name) c.in_ok-entries.ensures.exports) (ap (map export_listed_as) c.deref-2.ensures.value ∙ c.in_ok-entries.ensures.listed) c.in_ok-rare.ensures.with)
 
 pub returns-clause-uses : goal.returns-clause-uses
 returns-clause-uses c = λ is.

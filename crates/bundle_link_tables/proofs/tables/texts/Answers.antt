@@ -1,8 +1,7 @@
 -- One text more is in the set.
 use Rattle.std.proofs.Common.{◌++◌, ◌∷◌, [], ap, ◌∙◌, map, take, string_bytes}
 use Rattle.bundle_rules.specs.Nodes.{has_text}
-use Rattle.bundle_link_tables.proofs.LocalLemmas.{one_more}
-use Rattle.bundle_link_tables.proofs.OnceLemmas.{texts_put}
+use Rattle.bundle_link_tables.proofs.MarkLemmas.{one_more, texts_put}
 use Rattle.bundle_link_tables.proofs.tables.texts.Goals as goal
 
 pub loop-text-preserved : goal.loop-text-preserved

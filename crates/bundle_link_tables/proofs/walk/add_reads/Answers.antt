@@ -5,8 +5,8 @@ use Rattle.bundle_tree_places.specs.Placed.{word_told}
 use Rattle.bundle_tree_places.specs.Seconds.{text_of}
 use Rattle.bundle_link_tables.specs.Used.{name_read, place_read, places_before}
 use Rattle.bundle_link_tables.specs.Walked.{words_before}
-use Rattle.bundle_link_tables.specs.declared.table.Read.{Read}
-use Rattle.bundle_link_tables.proofs.WordLemmas.{places_end, places_more, reads_more, words_end, words_more}
+use Rattle.bundle_link_tables.specs.declared.table.MemberRead.{MemberRead}
+use Rattle.bundle_link_tables.proofs.MarkLemmas.{places_end, places_more, reads_more, words_end, words_more}
 use Rattle.bundle_link_tables.proofs.walk.add_reads.Goals as goal
 
 pub loop-name-preserved : goal.loop-name-preserved
@@ -17,11 +17,11 @@ loop-name-preserved c =
     let some = c.in-Some.ensures.some in
     let next : n - 1 + 1 ≡ n = omega (arith, some) in
     let words = words_more word n (n - 1) name.now (sym c.word_before.ensures.word ∙ ap text_of c.in-Some.is) next in
-    let read : Read = record { place = n - 1; name = name } in (
-      ap (λ (l : List Read). map name_read l ++ words_before word (n - 1)) c.in_ok-push.ensures.items
+    let read : MemberRead = record { place = n - 1; name = name } in (
+      ap (λ (l : List MemberRead). map name_read l ++ words_before word (n - 1)) c.in_ok-push.ensures.items
           ∙ reads_more c.loop-name.reads.items read (words_before word n) (words_before word (n - 1)) words
           ∙ c.loop-name.invariant.0,
-      ap (λ (l : List Read). map place_read l ++ places_before (n - 1) (length (words_before word (n - 1)))) c.in_ok-push.ensures.items
+      ap (λ (l : List MemberRead). map place_read l ++ places_before (n - 1) (length (words_before word (n - 1)))) c.in_ok-push.ensures.items
           ∙ places_more c.loop-name.reads.items read n (words_before word n) (words_before word (n - 1)) name.now words refl
           ∙ c.loop-name.invariant.1,
     )

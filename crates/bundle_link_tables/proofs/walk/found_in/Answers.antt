@@ -2,13 +2,13 @@
 use Rattle.std.proofs.Common.{◌++◌, [], ℕ, List, All, map, take, sym, ap, ◌∙◌, subst, append-nil, arith}
 use Rattle.std.specs.List.{flat_map}
 use Rattle.std.proofs.lemmas.List.{take_all}
-use Rattle.bundle_tree_piece.specs.Item.{item_of}
+use Rattle.bundle_syntax.specs.Item.{item_of}
 use Rattle.bundle_rules.specs.Nodes.{Text}
 use Rattle.bundle_link_tables.specs.Used.{begin_in_turn, name_read, place_read, places_by, use_by}
-use Rattle.bundle_link_tables.specs.Walked.{IsRead, has_import, uses_of_name}
+use Rattle.bundle_link_tables.specs.Walked.{AreWordsRead, has_import, uses_of_name}
 use Rattle.bundle_link_tables.specs.Within.{IsStated}
-use Rattle.bundle_link_tables.specs.declared.walk.Named.{Named}
-use Rattle.bundle_link_tables.proofs.UseLemmas.{imports_found, named_within, names_used, says_next, use_at, uses_told}
+use Rattle.bundle_link_tables.specs.declared.walk.ImportedName.{ImportedName}
+use Rattle.bundle_link_tables.proofs.MarkLemmas.{imports_found, named_within, names_used, says_next, use_at, uses_told}
 use Rattle.bundle_link_tables.proofs.walk.found_in.Goals as goal
 
 pub loop-name-init : goal.loop-name-init
@@ -45,11 +45,11 @@ returns-clause-uses c = λ finds is.
     let found = c.loop-name.found in
     ap (λ (words : List Text). map (use_by words) found.uses.items) (sym (append-nil (map name_read found.reads.items)))
     ∙ c.loop-name.invariant.0 []
-    ∙ ap (λ (l : List Named). flat_map (uses_of_name stated told) l) (take_all c.loop-name.name-index c.deref-name-items.result.now (omega (arith, c.loop-name-test.false)))
-    ∙ ap (λ (l : List Named). flat_map (uses_of_name stated told) l) c.deref-name-items.ensures.value
+    ∙ ap (λ (l : List ImportedName). flat_map (uses_of_name stated told) l) (take_all c.loop-name.name-index c.deref-name-items.result.now (omega (arith, c.loop-name-test.false)))
+    ∙ ap (λ (l : List ImportedName). flat_map (uses_of_name stated told) l) c.deref-name-items.ensures.value
     ∙ names_used tree stated told names
     (named_within table is_import tree names c.in_ok-names.ensures)
-    (subst (λ (l : List Named). All (λ (name : Named). IsStated tree stated name.place) l) c.deref.ensures.value c.in_ok-stated.ensures)
-    (subst (λ (l : List Named). All (λ (name : Named). IsRead tree told name.place) l) c.deref-2.ensures.value c.in_ok-told.ensures)
+    (subst (λ (l : List ImportedName). All (λ (name : ImportedName). IsStated tree stated name.place) l) c.deref.ensures.value c.in_ok-stated.ensures)
+    (subst (λ (l : List ImportedName). All (λ (name : ImportedName). AreWordsRead tree told name.place) l) c.deref-2.ensures.value c.in_ok-told.ensures)
     ∙ ap (flat_map (use_at tree)) c.in_ok-names.ensures
     ∙ uses_told tree table is is_import (imports_found c.args.imports.now tree finds)

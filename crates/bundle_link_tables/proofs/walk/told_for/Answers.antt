@@ -1,7 +1,7 @@
 -- Where no member begins right before a name, nothing is read of it.
 use Rattle.std.proofs.Common.{map, sym, ◌∙◌}
-use Rattle.bundle_tree_piece.specs.Item.{item_of}
-use Rattle.bundle_link_tables.proofs.WordLemmas.{read_all, unread_all}
+use Rattle.bundle_syntax.specs.Item.{item_of}
+use Rattle.bundle_link_tables.proofs.MarkLemmas.{read_all, unread_all}
 use Rattle.bundle_link_tables.proofs.walk.told_for.Goals as goal
 
 pub returns-then-are_read : goal.returns-then-are_read

@@ -1,7 +1,7 @@
 -- No source before is external.
 use Rattle.std.proofs.Common.{◌≡◌, false}
 use Rattle.bundle_link_tables.specs.declared.table.Source.{Source}
-use Rattle.bundle_link_targets.proofs.FirstLemmas.{HoldsBelow}
+use Rattle.bundle_link_targets.proofs.StageLemmas.{HoldsBelow}
 use Rattle.bundle_link_targets.proofs.faults.external_fault.Given as goal
 
 abbrev pub invariant-loop-source : goal.invariant-loop-source

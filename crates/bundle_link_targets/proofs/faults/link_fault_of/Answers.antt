@@ -1,7 +1,7 @@
 -- Stage after stage.
 use Rattle.std.proofs.Common.{Some, arith, refl, subst, sym}
 use Rattle.bundle_link_index.specs.Outside.{IsIndexOf}
-use Rattle.bundle_link_targets.proofs.FirstLemmas.{is_none}
+use Rattle.bundle_link_targets.proofs.StageLemmas.{is_none}
 use Rattle.bundle_link_targets.proofs.JudgedLemmas.{judged_none, judged_some}
 use Rattle.bundle_link_targets.proofs.faults.link_fault_of.Goals as goal
 

@@ -1,6 +1,6 @@
 use Rattle.std.proofs.Common.{length, ap, ◌∙◌}
 use Rattle.bundle_link_targets.specs.Lists.{list_in}
-use Rattle.bundle_link_targets.proofs.FillLemmas.{list-none, none-push, long-push}
+use Rattle.bundle_link_targets.proofs.CallPlaceLemmas.{list-none, none-push, long-push}
 use Rattle.bundle_link_targets.proofs.lists.no_lists.Goals as goal
 
 pub loop-init : goal.loop-init

@@ -1,4 +1,4 @@
-use Rattle.bundle_link_targets.proofs.AddLemmas.{Adds-target}
+use Rattle.bundle_link_targets.proofs.TakenLemmas.{Adds-target}
 use Rattle.bundle_link_targets.proofs.meant.add_target.Goals as goal
 
 pub returns : goal.returns

@@ -1,9 +1,9 @@
 use Rattle.std.proofs.Common.{◌≡◌, ◌+◌, Contains, map, refl, sym, subst, take}
 use Rattle.std.proofs.lemmas.List.{take_all}
 use Rattle.bundle_rules.specs.Linking as l
-use Rattle.bundle_link_search.specs.Given.{Adds}
+use Rattle.bundle_link_index.specs.Given.{AddsMissing}
 use Rattle.bundle_link_targets.specs.Found.{target_in, targets_in}
-use Rattle.bundle_link_targets.proofs.AddLemmas.{AnyOf, Adds-step, Adds-same, map-more}
+use Rattle.bundle_link_targets.proofs.TakenLemmas.{AnyOf, Adds-step, Adds-same, map-more}
 use Rattle.bundle_link_targets.proofs.meant.add_targets.Goals as goal
 
 pub loop-pair-preserved : goal.loop-pair-preserved
@@ -16,6 +16,6 @@ loop-pair-preserved c =
 pub returns : goal.returns
 returns c =
     let linked = c.args.linked.now in
-    let all = subst (λ ls. Adds (targets_in c.args.targets.now) (AnyOf (map target_in ls) (λ (x : l.Target) (t : l.Target). t ≡ x)) (targets_in c.loop-pair.targets)) (take_all c.loop-pair.pair-index linked c.loop-pair-test.false) c.loop-pair.invariant in
+    let all = subst (λ ls. AddsMissing (targets_in c.args.targets.now) (AnyOf (map target_in ls) (λ (x : l.Target) (t : l.Target). t ≡ x)) (targets_in c.loop-pair.targets)) (take_all c.loop-pair.pair-index linked c.loop-pair-test.false) c.loop-pair.invariant in
     Adds-same (targets_in c.args.targets.now) (targets_in c.loop-pair.targets) (AnyOf (map target_in linked) (λ (x : l.Target) (t : l.Target). t ≡ x)) (Contains (map target_in linked))
     (λ t any. subst (Contains (map target_in linked)) (sym any.2) any.1) (λ t there. (t, there, refl)) all

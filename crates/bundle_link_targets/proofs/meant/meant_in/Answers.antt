@@ -1,6 +1,6 @@
 use Rattle.bundle_link_targets.specs.Found.{targets_in}
-use Rattle.bundle_link_targets.proofs.LinkLemmas.{holds-linked}
-use Rattle.bundle_link_targets.proofs.MeetLemmas.{holds-meant}
+use Rattle.bundle_link_targets.proofs.UseLemmas.{holds-linked}
+use Rattle.bundle_link_targets.proofs.HandedLemmas.{holds-meant}
 use Rattle.bundle_link_targets.proofs.meant.meant_in.Goals as goal
 
 pub returns-clause-right : goal.returns-clause-right

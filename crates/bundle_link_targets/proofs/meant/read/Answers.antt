@@ -3,7 +3,7 @@ use Rattle.bundle_link_index.specs.Outside.{IsIndexOf}
 use Rattle.bundle_link_index.specs.Says.{target_of}
 use Rattle.bundle_link_tables.specs.Used.{name_read}
 use Rattle.bundle_link_targets.specs.Meant.{ReadsOn}
-use Rattle.bundle_link_targets.proofs.ReadLemmas.{read-next, read-stops, read-ends}
+use Rattle.bundle_link_targets.proofs.ListLemmas.{read-next, read-stops, read-ends}
 use Rattle.bundle_link_targets.proofs.meant.read.Goals as goal
 
 pub returns-in_default-clause-right : goal.returns-in_default-clause-right

@@ -3,7 +3,7 @@ use Rattle.bundle_rules.specs.Program.{Program}
 use Rattle.bundle_link_index.specs.Outside.{IsIndexOf}
 use Rattle.bundle_link_index.specs.Says.{target_of}
 use Rattle.bundle_link_tables.specs.Used.{name_read}
-use Rattle.bundle_link_targets.proofs.ReadLemmas.{Onward}
+use Rattle.bundle_link_targets.proofs.ListLemmas.{Onward}
 use Rattle.bundle_link_targets.proofs.meant.read.Given as goal
 
 abbrev pub invariant-loop-read : goal.invariant-loop-read

@@ -1,5 +1,5 @@
 use Rattle.bundle_link_targets.specs.Names.{texts_in}
-use Rattle.bundle_link_targets.proofs.NamedLemmas.{gains-name, gains-put}
+use Rattle.bundle_link_targets.proofs.CallPlaceLemmas.{gains-name, gains-put}
 use Rattle.bundle_link_targets.proofs.names.add_name.Goals as goal
 
 pub returns-then-is_own : goal.returns-then-is_own

@@ -1,5 +1,5 @@
 use Rattle.bundle_link_targets.specs.Names.{texts_in}
-use Rattle.bundle_link_targets.proofs.NamedLemmas.{gains-step}
+use Rattle.bundle_link_targets.proofs.CallPlaceLemmas.{gains-step}
 use Rattle.bundle_link_targets.proofs.names.add_names.Goals as goal
 
 pub loop-export-preserved : goal.loop-export-preserved

@@ -2,7 +2,7 @@ use Rattle.std.proofs.Common.{map, sym, ◌∙◌, subst, Bor, Contains, ℕ, Li
 use Rattle.std.proofs.lemmas.List.{take_all}
 use Rattle.std.proofs.lemmas.List.Sorted.{Contains-permutation, IsPermutation-map}
 use Rattle.std.specs.List.{IsDistinct}
-use Rattle.bundle_link_targets.proofs.AddLemmas.{push-more}
+use Rattle.bundle_link_targets.proofs.TakenLemmas.{push-more}
 use Rattle.bundle_link_targets.proofs.AscendingLemmas.{text-eq, texts-ascend}
 use Rattle.bundle_link_targets.proofs.names.sorted.Goals as goal
 

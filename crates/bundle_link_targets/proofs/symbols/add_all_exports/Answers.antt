@@ -2,22 +2,22 @@ use Rattle.std.proofs.Common.{◌++◌, ap, sym, ◌∙◌, append-nil, append_a
 use Rattle.std.proofs.lemmas.List.{take_all}
 use Rattle.std.specs.List.{flat_map}
 use Rattle.bundle_link_index.specs.Says.{target_of}
-use Rattle.bundle_link_index.proofs.HandedLemmas.{flat_more}
-use Rattle.bundle_link_targets.specs.Symbols.{called, exports_called}
+use Rattle.bundle_link_tables.proofs.MarkLemmas.{flat_next as flat_more}
+use Rattle.bundle_link_targets.specs.Symbols.{called_first, exports_called}
 use Rattle.bundle_link_targets.proofs.symbols.add_all_exports.Goals as goal
 
-pub loop-module-init : goal.loop-module-init
-loop-module-init c = λ before known t. known t ∙ ap (called (target_of t)) (sym (append-nil before))
+pub loop-which-init : goal.loop-which-init
+loop-which-init c = λ before known t. known t ∙ ap (called_first (target_of t)) (sym (append-nil before))
 
-pub loop-module-preserved : goal.loop-module-preserved
-loop-module-preserved c = λ before known t.
+pub loop-which-preserved : goal.loop-which-preserved
+loop-which-preserved c = λ before known t.
     let f = exports_called c.args.kinds.now in
     let list = c.args.kinds.now.list.now in
-    let done = flat_map f (take c.loop-module.module-index list) in
-    c.in_ok-add_exports_of.ensures (before ++ done) (c.loop-module.invariant before known) t
-    ∙ ap (called (target_of t)) (append_assoc before done _ ∙ ap (λ l. before ++ l) (flat_more f list c.loop-module.module-index _ c.loop-module-test.true))
+    let done = flat_map f (take c.loop-which.which-index list) in
+    c.in_ok-add_exports_of.ensures (before ++ done) (c.loop-which.invariant before known) t
+    ∙ ap (called_first (target_of t)) (append_assoc before done _ ∙ ap (λ l. before ++ l) (flat_more f list c.loop-which.which-index _ c.loop-which-test.true))
 
 pub returns : goal.returns
 returns c = λ before known t.
-    c.loop-module.invariant before known t
-    ∙ ap (λ l. called (target_of t) (before ++ flat_map (exports_called c.args.kinds.now) l)) (take_all c.loop-module.module-index c.args.kinds.now.list.now c.loop-module-test.false)
+    c.loop-which.invariant before known t
+    ∙ ap (λ l. called_first (target_of t) (before ++ flat_map (exports_called c.args.kinds.now) l)) (take_all c.loop-which.which-index c.args.kinds.now.list.now c.loop-which-test.false)

@@ -3,5 +3,5 @@ use Rattle.std.specs.List.{flat_map}
 use Rattle.bundle_link_targets.specs.Symbols.{Called, Calls, imports_called}
 use Rattle.bundle_link_targets.proofs.symbols.add_all_imports.Given as goal
 
-abbrev pub invariant-loop-module : goal.invariant-loop-module
-invariant-loop-module l = (before : List Called) → Calls l.fn.symbols before → Calls l.symbols (before ++ flat_map (imports_called l.kinds) (take l.module-index l.kinds.list.now))
+abbrev pub invariant-loop-which : goal.invariant-loop-which
+invariant-loop-which l = (before : List Called) → Calls l.fn.symbols before → Calls l.symbols (before ++ flat_map (imports_called l.kinds) (take l.which-index l.kinds.list.now))

@@ -4,4 +4,4 @@ use Rattle.bundle_link_targets.specs.Symbols.{Called, Calls, imported_by}
 use Rattle.bundle_link_targets.proofs.symbols.add_imports.Given as goal
 
 abbrev pub invariant-loop-import : goal.invariant-loop-import
-invariant-loop-import l = (before : List Called) → Calls l.fn.symbols before → Calls l.symbols (before ++ filter_map (imported_by l.kinds l.module) (take l.import-index l.imports))
+invariant-loop-import l = (before : List Called) → Calls l.fn.symbols before → Calls l.symbols (before ++ filter_map (imported_by l.kinds l.which) (take l.import-index l.imports))

@@ -2,15 +2,15 @@ use Rattle.std.proofs.Common.{◌++◌, append-nil, ap, sym, ◌∙◌, subst}
 use Rattle.std.specs.Prelude.{OnOk, filter_map, slice_get}
 use Rattle.bundle_link_index.specs.declared.target.LinkModule.{LinkModule}
 use Rattle.bundle_link_index.specs.Says.{target_of}
-use Rattle.bundle_link_targets.specs.Symbols.{Calls, called, imported_by, imports_at}
-use Rattle.bundle_link_targets.proofs.ChainLemmas.{map-some}
-use Rattle.bundle_link_targets.proofs.FillLemmas.{map-none}
+use Rattle.bundle_link_targets.specs.Symbols.{Calls, called_first, imported_by, imports_at}
+use Rattle.bundle_link_targets.proofs.ListLemmas.{map-some}
+use Rattle.bundle_link_targets.proofs.SymbolLemmas.{map-none-back as map-none}
 use Rattle.bundle_link_targets.proofs.symbols.add_imports_of.Goals as goal
 
 pub returns-in-Some : goal.returns-in-Some
 returns-in-Some c = λ before known.
     let kinds = c.args.kinds.now in
-    let m = c.args.module in
+    let m = c.args.which in
     let at = map-some (λ (its : LinkModule). its.tables) (slice_get kinds.modules.now m) c.in-Some.tables (sym c.tables.ensures ∙ c.in-Some.is) in
     let all = c.deref.ensures.value ∙ ap (λ t. t.now.imports.items) (sym at.2) in
     subst (λ o. OnOk c.add_imports.result (Calls c.add_imports.new.symbols (before ++ imports_at kinds m o))) (sym at.1)
@@ -19,6 +19,6 @@ returns-in-Some c = λ before known.
 pub returns-in-None : goal.returns-in-None
 returns-in-None c = λ before known t.
     let kinds = c.args.kinds.now in
-    let m = c.args.module in
+    let m = c.args.which in
     let none = map-none (λ (its : LinkModule). its.tables) (slice_get kinds.modules.now m) (sym c.tables.ensures ∙ c.in-None.is) in
-    known t ∙ ap (called (target_of t)) (sym (append-nil before) ∙ ap (λ o. before ++ imports_at kinds m o) (sym none))
+    known t ∙ ap (called_first (target_of t)) (sym (append-nil before) ∙ ap (λ o. before ++ imports_at kinds m o) (sym none))

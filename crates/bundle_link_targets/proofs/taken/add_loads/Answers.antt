@@ -3,7 +3,7 @@ use Rattle.std.specs.Prelude.{filter_map}
 use Rattle.std.specs.List.{cons_option}
 use Rattle.std.proofs.lemmas.List.{take_all}
 use Rattle.bundle_rules.specs.Nodes.{numbers_once}
-use Rattle.bundle_link_targets.specs.Taken.{load_by}
+use Rattle.bundle_link_targets.specs.Taken.{module_loaded_by}
 use Rattle.bundle_link_targets.proofs.TakenLemmas.{filter-more}
 use Rattle.bundle_link_targets.proofs.taken.add_loads.Goals as goal
 
@@ -12,7 +12,7 @@ loop-source-init c = λ before known. known ∙ ap numbers_once (sym (append-nil
 
 pub loop-source-preserved : goal.loop-source-preserved
 loop-source-preserved c = λ before known.
-    let h = load_by c.args.kinds.now c.args.taker in
+    let h = module_loaded_by c.args.kinds.now c.args.taker in
     let sources = c.args.sources.now in
     let done = filter_map h (take c.loop-source.source-index sources) in
     c.in_ok-add_number.ensures (before ++ done) (c.loop-source.invariant before known)
@@ -22,4 +22,4 @@ loop-source-preserved c = λ before known.
 pub returns : goal.returns
 returns c = λ before known.
     c.loop-source.invariant before known
-    ∙ ap (λ l. numbers_once (before ++ filter_map (load_by c.args.kinds.now c.args.taker) l)) (take_all c.loop-source.source-index c.args.sources.now c.loop-source-test.false)
+    ∙ ap (λ l. numbers_once (before ++ filter_map (module_loaded_by c.args.kinds.now c.args.taker) l)) (take_all c.loop-source.source-index c.args.sources.now c.loop-source-test.false)

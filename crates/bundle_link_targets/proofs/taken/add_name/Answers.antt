@@ -6,10 +6,10 @@ use Rattle.bundle_rules.specs.Nodes.{Text}
 use Rattle.bundle_scope_denote.specs.texts.Seen.{list_of}
 use Rattle.bundle_link_targets.specs.contracts.taken.GiverPartialEq.TheImpl as giver_impl
 use Rattle.bundle_link_targets.specs.declared.taken.Giver.{Giver}
-use Rattle.bundle_link_targets.specs.Taken.{names_of, names_for, given_to}
+use Rattle.bundle_link_targets.specs.Taken.{name_list, names_for, given_to_giver}
 use Rattle.bundle_link_targets.proofs.taken.add_name.Goals as goal
 
-same_list : (found : Option (Vec (Bor Text) Global)) → names_of found ≡ list_of found
+same_list : (found : Option (Vec (Bor Text) Global)) → name_list found ≡ list_of found
 same_list None = refl
 same_list (Some list) = refl
 
@@ -23,5 +23,5 @@ returns c =
     on_ok_weaker c.push.result
     (λ pushed giver.
     same_names c.push.new.self giver ∙ pushed giver
-    ∙ ap (λ l. l ++ given_to c.args.giver giver c.args.name) (sym (same_names c.args.names.now giver)))
+    ∙ ap (λ l. l ++ given_to_giver c.args.giver giver c.args.name) (sym (same_names c.args.names.now giver)))
     c.push.ensures

@@ -1,7 +1,7 @@
 use Rattle.std.proofs.Common.{[], ◌++◌, append-nil, ap, sym, ◌∙◌}
 use Rattle.std.specs.List.{cons_option}
 use Rattle.bundle_rules.specs.Nodes.{numbers_once}
-use Rattle.bundle_link_targets.proofs.NumberLemmas.{numbers_put}
+use Rattle.bundle_link_targets.proofs.CalledLemmas.{numbers_put}
 use Rattle.bundle_link_targets.proofs.taken.add_number.Goals as goal
 
 pub returns-in_ok-insert-in-Some : goal.returns-in_ok-insert-in-Some

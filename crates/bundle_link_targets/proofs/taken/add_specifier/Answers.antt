@@ -1,7 +1,7 @@
 use Rattle.std.proofs.Common.{◌++◌, append-nil, ap, sym, ◌∙◌, rules}
 use Rattle.bundle_rules.specs.Nodes.{each_once}
-use Rattle.bundle_link_tables.proofs.OnceLemmas.{once_put}
-use Rattle.bundle_link_index.proofs.HandedLemmas.{external_here, external_none}
+use Rattle.bundle_link_tables.proofs.MarkLemmas.{once_put}
+use Rattle.bundle_link_index.proofs.ProgramLemmas.{external_here, external_none}
 use Rattle.bundle_link_targets.proofs.taken.add_specifier.Goals as goal
 
 pub returns-then-source : goal.returns-then-source

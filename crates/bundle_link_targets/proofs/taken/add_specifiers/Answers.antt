@@ -3,7 +3,7 @@ use Rattle.std.proofs.lemmas.List.{take_all}
 use Rattle.std.specs.List.{flat_map}
 use Rattle.bundle_rules.specs.Nodes.{each_once}
 use Rattle.bundle_link_index.specs.Handed.{external_one}
-use Rattle.bundle_link_index.proofs.HandedLemmas.{flat_more}
+use Rattle.bundle_link_tables.proofs.MarkLemmas.{flat_next as flat_more}
 use Rattle.bundle_link_targets.proofs.taken.add_specifiers.Goals as goal
 
 pub loop-source-init : goal.loop-source-init

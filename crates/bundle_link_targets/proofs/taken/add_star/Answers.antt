@@ -1,6 +1,6 @@
 use Rattle.std.proofs.Common.{◌++◌, append-nil, ap, sym, ◌∙◌}
 use Rattle.bundle_rules.specs.Nodes.{has_text}
-use Rattle.bundle_link_tables.proofs.OnceLemmas.{texts_put}
+use Rattle.bundle_link_tables.proofs.MarkLemmas.{texts_put}
 use Rattle.bundle_link_index.specs.Leads.{lead_told}
 use Rattle.bundle_link_targets.specs.Taken.{starred_as}
 use Rattle.bundle_link_targets.proofs.taken.add_star.Goals as goal

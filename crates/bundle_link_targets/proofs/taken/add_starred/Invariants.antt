@@ -7,4 +7,4 @@ use Rattle.bundle_link_targets.specs.Taken.{starred_one}
 use Rattle.bundle_link_targets.proofs.taken.add_starred.Given as goal
 
 abbrev pub invariant-loop-star : goal.invariant-loop-star
-invariant-loop-star l = (before : List Text) → HasTexts l.fn.starred before → HasTexts l.starred (before ++ flat_map (starred_one (lead_of l.kinds l.module)) (take l.star-index l.stars))
+invariant-loop-star l = (before : List Text) → HasTexts l.fn.starred before → HasTexts l.starred (before ++ flat_map (starred_one (lead_of l.kinds l.which)) (take l.star-index l.stars))

@@ -1,7 +1,7 @@
 use Rattle.std.proofs.Common.{map}
 use Rattle.std.specs.List.{flat_map}
 use Rattle.bundle_link_targets.specs.Taken.{specifier_of, starred_in}
-use Rattle.bundle_link_targets.proofs.StarLemmas.{stars-picked}
+use Rattle.bundle_link_targets.proofs.CalledLemmas.{stars-picked}
 use Rattle.bundle_link_targets.proofs.TakenLemmas.{text-of}
 use Rattle.bundle_link_targets.proofs.taken.external_stars_of.Goals as goal
 

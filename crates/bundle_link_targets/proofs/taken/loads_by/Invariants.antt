@@ -4,8 +4,8 @@ use Rattle.bundle_link_targets.specs.Found.{targets_in}
 use Rattle.bundle_link_targets.specs.Taken.{AreAllNames, IsLoad}
 use Rattle.bundle_link_targets.proofs.taken.loads_by.Given as goal
 
-abbrev pub invariant-loop-module : goal.invariant-loop-module
-invariant-loop-module l = record {
-  modules : map (λ loaded. loaded.module) l.loads.items ≡ map (λ n. n) (take l.module-index l.all);
+abbrev pub invariant-loop-which : goal.invariant-loop-which
+invariant-loop-which l = record {
+  modules : map (λ loaded. loaded.which) l.loads.items ≡ map (λ n. n) (take l.which-index l.all);
   taken : AreAllNames (targets_in l.meant) l.names → All (IsLoad (targets_in l.meant) l.taker) l.loads.items;
 }

@@ -3,8 +3,8 @@ use Rattle.std.proofs.lemmas.List.{take_all, take_more}
 use Rattle.std.proofs.lemmas.Option.{slice_get_past}
 use Rattle.bundle_link_targets.specs.Found.{targets_in}
 use Rattle.bundle_link_targets.specs.Taken.{AreLoadsOf}
-use Rattle.bundle_link_targets.proofs.FillLemmas.{fills-put, one-more}
-use Rattle.bundle_link_targets.proofs.ListLemmas.{none-there}
+use Rattle.bundle_link_targets.proofs.CallPlaceLemmas.{fills-put, one-more}
+use Rattle.bundle_link_index.proofs.AskedLemmas.{none_there as none-there}
 use Rattle.bundle_link_targets.proofs.TakenLemmas.{no-loads}
 use Rattle.bundle_link_targets.proofs.taken.loads_of.Goals as goal
 

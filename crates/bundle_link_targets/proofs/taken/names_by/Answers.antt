@@ -2,7 +2,7 @@ use Rattle.std.proofs.Common.{map, sym, ◌∙◌, subst}
 use Rattle.std.proofs.lemmas.List.{take_all}
 use Rattle.std.specs.List.{IsDistinct}
 use Rattle.bundle_link_index.specs.Says.{target_of}
-use Rattle.bundle_link_index.specs.contracts.target.TargetPartialEq.TheImpl as target_impl
+use Rattle.bundle_link_index.specs.contracts.target.TargetRefPartialEq.TheImpl as target_impl
 use Rattle.bundle_link_targets.specs.Taken.{HoldNames, names_for}
 use Rattle.bundle_link_targets.proofs.TakenLemmas.{names-none, names-step, names-nothing}
 use Rattle.bundle_link_targets.proofs.taken.names_by.Goals as goal

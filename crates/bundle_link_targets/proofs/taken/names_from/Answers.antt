@@ -2,11 +2,10 @@ use Rattle.std.proofs.Common.{map, sym, ◌∙◌, subst}
 use Rattle.std.proofs.lemmas.List.{take_all}
 use Rattle.std.proofs.lemmas.List.Sorted.{Contains-permutation, IsPermutation-map, IsPermutation-sym}
 use Rattle.bundle_rules.specs.Entries.{Named}
-use Rattle.bundle_link_targets.specs.Taken.{HoldNames, taken_from}
-use Rattle.bundle_link_targets.proofs.AddLemmas.{push-more}
+use Rattle.bundle_link_targets.specs.Taken.{HoldNames, target_from_giver}
+use Rattle.bundle_link_targets.proofs.TakenLemmas.{push-more, lent-is, text-of}
 use Rattle.bundle_link_targets.proofs.AscendingLemmas.{texts-ascend}
-use Rattle.bundle_link_targets.proofs.ListLemmas.{place-there, there-place}
-use Rattle.bundle_link_targets.proofs.TakenLemmas.{lent-is, text-of}
+use Rattle.bundle_link_index.proofs.ProgramLemmas.{got_there as place-there, got as there-place}
 use Rattle.bundle_link_targets.proofs.taken.names_from.Goals as goal
 
 pub loop-name-preserved : goal.loop-name-preserved
@@ -24,7 +23,7 @@ returns c = λ targets holds.
     record {
       ascending = texts-ascend old new moved all.once c.sort_unstable.ensures.sorted;
       all = λ x. (
-        λ there. there-place targets (taken_from giver (Named x)) (all.right x (Contains-permutation (map text-of new) (map text-of old) x (IsPermutation-sym (map text-of old) (map text-of new) seen) there)),
-        λ there. Contains-permutation (map text-of old) (map text-of new) x seen (all.there x (place-there targets there.0 (taken_from giver (Named x)) there.1)),
+        λ there. there-place targets (target_from_giver giver (Named x)) (all.right x (Contains-permutation (map text-of new) (map text-of old) x (IsPermutation-sym (map text-of old) (map text-of new) seen) there)),
+        λ there. Contains-permutation (map text-of old) (map text-of new) x seen (all.there x (place-there targets there.0 (target_from_giver giver (Named x)) there.1)),
       );
     }

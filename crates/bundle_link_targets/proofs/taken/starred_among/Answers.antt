@@ -3,7 +3,7 @@ use Rattle.std.proofs.lemmas.List.{map-append, take_all}
 use Rattle.std.specs.Prelude.{filter}
 use Rattle.bundle_rules.specs.Nodes.{has_text}
 use Rattle.bundle_link_targets.specs.Taken.{specifier_of}
-use Rattle.bundle_link_targets.proofs.StarLemmas.{filter-step}
+use Rattle.bundle_link_targets.proofs.CalledLemmas.{filter-step}
 use Rattle.bundle_link_targets.proofs.TakenLemmas.{text-of}
 use Rattle.bundle_link_targets.proofs.taken.starred_among.Goals as goal
 use Rattle.bundle_link_targets.proofs.taken.starred_among.Goals.{then-contains+in_ok-push, else-contains}

@@ -4,11 +4,11 @@ use Rattle.bundle_rules.specs.Rebuilds.{Change}
 use Rattle.bundle_tree_places.specs.Changes.{change_of}
 use Rattle.bundle_tree_places.specs.Marks.{ident_of}
 use Rattle.bundle_tree_places.proofs.RenameLemmas.{changes_to-none}
-use Rattle.bundle_marks.specs.Idents.{ident_in}
+use Rattle.bundle_marks.specs.Idents.{tree_ident}
 use Rattle.bundle_marks.proofs.rename.changes_between.Goals as goal
 
 pub returns : goal.returns
 returns c =
     sym (append-nil _)
-    ∙ ap (λ (rest : List Change). map change_of c.loop-old.changes.items ++ rest) (sym (changes_to-none (λ o. ident_of o.id) ident_in c.loop-old.old-iterator.a.rest.now c.loop-old.old-iterator.b.rest.now (elim c.in-None.ensures.steps [ inl none ↦ inl none.1.0 | inr none ↦ inr none.1.0 ])))
+    ∙ ap (λ (rest : List Change). map change_of c.loop-old.changes.items ++ rest) (sym (changes_to-none (λ o. ident_of o.id) tree_ident c.loop-old.old-iterator.a.rest.now c.loop-old.old-iterator.b.rest.now (elim c.in-None.ensures.steps [ inl none ↦ inl none.1.0 | inr none ↦ inr none.1.0 ])))
     ∙ c.loop-old.invariant

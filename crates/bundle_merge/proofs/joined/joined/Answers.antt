@@ -2,10 +2,10 @@
 use Rattle.std.proofs.Common.{List, ℕ, map, inl, refl, ap, sym, ◌∙◌, subst}
 use Rattle.std.proofs.lemmas.Result.{IfOk-weaker, IfErr-weaker, err_from_is_err_and}
 use Rattle.bundle_rules.specs.Parts.{in_order}
-use Rattle.bundle_link_index.specs.Numbered.{IsOnce}
-use Rattle.bundle_link_reached.proofs.NumberLemmas.{once-same}
-use Rattle.bundle_merge_whole.proofs.planned.RequestLemmas.{list-once}
-use Rattle.bundle_merge_items.specs.Added.{items_of}
+use Rattle.bundle_link_index.specs.Numbered.{HasNoDoubles}
+use Rattle.bundle_link.proofs.NumberLemmas.{once-same}
+use Rattle.bundle_merge_theory.proofs.planned.RequestLemmas.{list-once}
+use Rattle.bundle_merge_items.specs.Added.{module_item_lists}
 use Rattle.bundle_merge.specs.Prepared.{items_of_each}
 use Rattle.bundle_merge.proofs.Places.{one-place}
 use Rattle.bundle_merge.proofs.joined.joined.Goals as goal
@@ -20,11 +20,11 @@ returns-clause-bundle c =
     IfOk-weaker c.joined_of.result _ _
     (λ made all p given its w ready places.
     (let list = c.args.linker.now.linked.list.items in
-    let once : IsOnce list = one-place list (list-once p list w.of.linked.list) in
+    let once : HasNoDoubles list = one-place list (list-once p list w.of.linked.list) in
     let keys = places ∙ once-same list once in
-    let copied = c.in_ok-copies.ensures (subst (λ (l : List ℕ). IsOnce l) (sym keys) once) in
+    let copied = c.in_ok-copies.ensures (subst (λ (l : List ℕ). HasNoDoubles l) (sym keys) once) in
     all p given its c.args.prepared.now w ready keys
-    (ap (map items_of) c.deref.ensures.value ∙ copied
+    (ap (map module_item_lists) c.deref.ensures.value ∙ copied
     ∙ ap (items_of_each (in_order c.args.prepared.now)) keys)))
     c.joined_of.ensures.bundle
 
@@ -33,10 +33,10 @@ returns-clause-lacks c =
     IfErr-weaker c.joined_of.result _ _
     (λ refusal lacks p given its w ready places.
     (let list = c.args.linker.now.linked.list.items in
-    let once : IsOnce list = one-place list (list-once p list w.of.linked.list) in
+    let once : HasNoDoubles list = one-place list (list-once p list w.of.linked.list) in
     let keys = places ∙ once-same list once in
-    let copied = c.in_ok-copies.ensures (subst (λ (l : List ℕ). IsOnce l) (sym keys) once) in
+    let copied = c.in_ok-copies.ensures (subst (λ (l : List ℕ). HasNoDoubles l) (sym keys) once) in
     lacks p given its c.args.prepared.now w ready keys
-    (ap (map items_of) c.deref.ensures.value ∙ copied
+    (ap (map module_item_lists) c.deref.ensures.value ∙ copied
     ∙ ap (items_of_each (in_order c.args.prepared.now)) keys)))
     c.joined_of.ensures.lacks

@@ -9,16 +9,16 @@ use Rattle.bundle_rules.specs.Parts.{Parts, in_order}
 use Rattle.bundle_rules.specs.Program.{Program}
 use Rattle.bundle_link.specs.declared.link.Linker.{Linker}
 use Rattle.bundle_scope.specs.Refusals.{IsUsedUp}
-use Rattle.bundle_merge_meaning.specs.joined.Joined.{joined}
-use Rattle.bundle_merge_whole.specs.cleared.Programs.{cleared_program}
-use Rattle.bundle_merge_whole.proofs.cleared.Cleared.{merged-of-cleared, needs-of-cleared}
-use Rattle.bundle_merge_items.specs.Added.{items_of}
+use Rattle.bundle_merge_theory.specs.joined.Joined.{joined_items}
+use Rattle.bundle_merge_theory.specs.cleared.Programs.{cleared_program}
+use Rattle.bundle_merge_theory.proofs.cleared.Cleared.{merged-of-cleared, needs-of-cleared}
+use Rattle.bundle_merge_items.specs.Added.{module_item_lists}
 use Rattle.bundle_merge.specs.Handed.{AreReadFrom, AreReadIn}
 use Rattle.bundle_merge.specs.Prepared.{items_of_each}
 use Rattle.bundle_merge.specs.Read.{AreAllKnown}
 use Rattle.bundle_merge.specs.Ready.{Answering, IsMergeable, hooks_by}
 use Rattle.bundle_merge.specs.Refusals.{MayLackNames}
-use Rattle.bundle_merge.specs.declared.read.Read.{Read}
+use Rattle.bundle_merge.specs.declared.read.ReadModule.{ReadModule}
 use Rattle.bundle_merge.proofs.Joining.{long-copies, memory-alone, read-in}
 use Rattle.bundle_merge.proofs.Objects.{answers-fit}
 use Rattle.bundle_merge.proofs.Ready.{all-known}
@@ -38,14 +38,14 @@ returns-in_err-reads-clause-lacks c =
     (long-copies p hooks its next prepared linker w ready fits copies copied)))))
 
 -- what was read is read of the program
-abbrev IsReadSo : (linker : Linker) (copies : List Module) (next : ℕ) (reads : List Read) → Type 0
+abbrev IsReadSo : (linker : Linker) (copies : List Module) (next : ℕ) (reads : List ReadModule) → Type 0
 IsReadSo linker copies next reads =
     (p : Program) (given : Answering) (its : ℕ → Contexts) (prepared : Parts) →
     IsMergeable p its linker → IsPrepared p (hooks_by given) its next prepared →
-    map items_of copies ≡ items_of_each (in_order prepared) linker.linked.list.items →
+    map module_item_lists copies ≡ items_of_each (in_order prepared) linker.linked.list.items →
     AreReadIn (cleared_program p) (hooks_by given) linker (λ m. (its m).local) next reads
 
-read-so : (linker : Linker) (ids : List ℕ) (copies : List Module) (next : ℕ) (reads : List Read) →
+read-so : (linker : Linker) (ids : List ℕ) (copies : List Module) (next : ℕ) (reads : List ReadModule) →
     ids ≡ linker.linked.list.items →
     (AreAllKnown linker linker.linked.list.items →
     length copies ≡ length linker.linked.list.items →
@@ -73,7 +73,7 @@ returns-in-Ok-clause-bundle c =
     let read =
     read-so linker c.args.places.now.keys copies next reads keys c.in_ok-reads.ensures.read p given
     its prepared w ready copied in
-    subst (λ (m : Module). IsMerged (λ x. x) (λ m. (its m).local) p hooks (joined (items_of m)))
+    subst (λ (m : Module). IsMerged (λ x. x) (λ m. (its m).local) p hooks (joined_items (module_item_lists m)))
     (sym same)
     (merged-of-cleared p (λ x. x) (λ m. (its m).local) hooks _
     (c.in-Ok.ensures.merged (cleared_program p) given (λ m. (its m).local)
@@ -81,7 +81,7 @@ returns-in-Ok-clause-bundle c =
     (λ (n : ℕ). AreReadIn (cleared_program p) hooks linker (λ m. (its m).local) n c.deref.result.now)
     (sym c.next.ensures)
     (subst
-    (λ (l : List Read). AreReadIn (cleared_program p) hooks linker (λ m. (its m).local) next l)
+    (λ (l : List ReadModule). AreReadIn (cleared_program p) hooks linker (λ m. (its m).local) next l)
     (sym c.deref.ensures.value) read))))))
     c.with_next.ensures.made
 
@@ -109,7 +109,7 @@ returns-in-Ok-clause-lacks c =
                 (λ (n : ℕ). AreReadIn (cleared_program p) hooks linker (λ m. (its m).local) n c.deref.result.now)
                 (sym c.next.ensures)
                 (subst
-                (λ (l : List Read). AreReadIn (cleared_program p) hooks linker (λ m. (its m).local) next l)
+                (λ (l : List ReadModule). AreReadIn (cleared_program p) hooks linker (λ m. (its m).local) next l)
                 (sym c.deref.ensures.value) read))
                 used.1)),
           )
@@ -140,6 +140,6 @@ returns-clause-lacks c =
           (λ (n : ℕ). AreReadIn (cleared_program p) hooks linker (λ m. (its m).local) n c.deref.result.now)
           (sym c.next.ensures)
           (subst
-          (λ (l : List Read). AreReadIn (cleared_program p) hooks linker (λ m. (its m).local) next l)
+          (λ (l : List ReadModule). AreReadIn (cleared_program p) hooks linker (λ m. (its m).local) next l)
           (sym c.deref.ensures.value) read))))),
     ))

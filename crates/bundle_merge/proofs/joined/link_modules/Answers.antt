@@ -4,7 +4,7 @@ use Rattle.std.specs.List.{AllZip}
 use Rattle.std.proofs.lemmas.List.{take_more}
 use Rattle.std.proofs.lemmas.Slice.Zip.{all_zipped_more}
 use Rattle.bundle_merge.specs.Handed.{IsLinkRead}
-use Rattle.bundle_merge.specs.declared.read.Read.{Read}
+use Rattle.bundle_merge.specs.declared.read.ReadModule.{ReadModule}
 use Rattle.bundle_merge.proofs.joined.link_modules.Goals as goal
 
 pub loop-read-preserved : goal.loop-read-preserved
@@ -16,8 +16,8 @@ loop-read-preserved c =
     let link = c.link_module.result in
     let more =
     take_more reads i its c.loop-read-test.true
-    ∙ ap (λ (y : Read). take i reads ++ y ∷ []) (sym c.read-item.is) in
+    ∙ ap (λ (y : ReadModule). take i reads ++ y ∷ []) (sym c.read-item.is) in
     subst (λ all. AllZip IsLinkRead (take (i + 1) reads) all) (sym c.in_ok-push.ensures.items)
-    (subst (λ (l : List Read). AllZip IsLinkRead l (done ++ link ∷ [])) (sym more)
+    (subst (λ (l : List ReadModule). AllZip IsLinkRead l (done ++ link ∷ [])) (sym more)
     (all_zipped_more IsLinkRead (take i reads) done its link c.loop-read.invariant
     c.link_module.ensures))

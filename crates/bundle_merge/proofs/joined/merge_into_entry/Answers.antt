@@ -1,20 +1,20 @@
 -- The items that are merged are those of the entry, as a module.
 use Rattle.std.proofs.Common.{List, ap, sym, ◌∙◌, subst}
 use Rattle.std.proofs.lemmas.Result.{err_from_is_err_and}
-use Rattle.bundle_tree_piece.specs.Item.{Item}
+use Rattle.bundle_syntax.specs.Item.{Item}
 use Rattle.bundle_rules.specs.Merged.{IsMerged}
 use Rattle.bundle_rules.specs.Nodes.{numbers_once}
 use Rattle.bundle_rules.specs.Parts.{body_of}
-use Rattle.bundle_merge_items.specs.Added.{items_of}
+use Rattle.bundle_merge_items.specs.Added.{module_item_lists}
 use Rattle.bundle_merge.specs.Ready.{hooks_by}
 use Rattle.bundle_merge.proofs.Joining.{body-joined}
 use Rattle.bundle_merge.proofs.joined.merge_into_entry.Goals as goal
 
 pub returns-clause-bundle : goal.returns-clause-bundle
 returns-clause-bundle c = λ p given its w ready.
-    let its_module = c.in_ok-module.«module» in
+    let its_module = c.in_ok-module.module in
     subst (λ (tree : List Item). IsMerged (λ x. x) (λ m. (its m).local) p (hooks_by given) tree)
-    (sym (ap body_of c.in_ok-merged.ensures ∙ body-joined c.entry.result (items_of its_module)))
+    (sym (ap body_of c.in_ok-merged.ensures ∙ body-joined c.entry.result (module_item_lists its_module)))
     (c.in_ok-module.ensures.bundle p given its w ready
     (c.in_ok-places.ensures ∙ ap numbers_once c.list.ensures))
 

@@ -2,7 +2,7 @@
 use Rattle.std.proofs.Common.{List, ap, refl, sym, subst}
 use Rattle.std.specs.List.{AllZip}
 use Rattle.std.specs.Prelude.{unwrap_or}
-use Rattle.bundle_merge_names.specs.declared.part.Part.{Part}
+use Rattle.bundle_merge_names.specs.declared.part.BundleModule.{BundleModule}
 use Rattle.bundle_merge.specs.Handed.{IsPartRead}
 use Rattle.bundle_merge.proofs.HandedLemmas.{made-of-read, refused-of-read}
 use Rattle.bundle_merge.proofs.joined.merged_by.Goals as goal
@@ -13,7 +13,7 @@ returns-clause-made c =
     c.merge_modules.result c.merge_modules.ensures.merged c.merge_modules.ensures.few
     (record {
       parts =
-          subst (λ (l : List Part). AllZip IsPartRead c.args.reads.now l)
+          subst (λ (l : List BundleModule). AllZip IsPartRead c.args.reads.now l)
           (sym c.deref.ensures.value) c.in_ok-parts.ensures;
       answers = refl;
       linked = refl;
@@ -27,7 +27,7 @@ returns-clause-refused c =
     c.merge_modules.result c.merge_modules.ensures.refused
     (record {
       parts =
-          subst (λ (l : List Part). AllZip IsPartRead c.args.reads.now l)
+          subst (λ (l : List BundleModule). AllZip IsPartRead c.args.reads.now l)
           (sym c.deref.ensures.value) c.in_ok-parts.ensures;
       answers = refl;
       linked = refl;

@@ -5,7 +5,7 @@ use Rattle.std.specs.Borrow.{Bor}
 use Rattle.std.proofs.lemmas.Option.{slice_get-get_or, slice_get_within}
 use Rattle.std.proofs.lemmas.Result.{err_from_is_err_and}
 use Rattle.bundle_link.specs.declared.transformed.TransformedModule.{TransformedModule}
-use Rattle.bundle_merge.specs.Read.{IsKnown}
+use Rattle.bundle_merge.specs.Read.{IsModuleKnown}
 use Rattle.bundle_merge.proofs.HandedLemmas.{found-is, next-read, reads-more, some-found}
 use Rattle.bundle_merge.proofs.joined.read_all.Goals as goal
 use Rattle.bundle_merge.proofs.joined.read_all.Goals.{in-Some+in_ok-read_module+in_ok-push, in_default}
@@ -71,7 +71,7 @@ loop-place-preserved c = λ known long.
     let below = slice_get_within copies place its there in
     let within : place < length list = omega (arith, below, long) in
     let finds : (m : ℕ) (it : TransformedModule) → slice_get list place ≡ Some m →
-    IsKnown linker m it → its_module c.module_at.result ≡ Some it =
+    IsModuleKnown linker m it → its_module c.module_at.result ≡ Some it =
     λ m it at is.
     c.module_at.ensures.known m it (ap (λ l. slice_get l place) c.list-list.ensures ∙ at) is in
     elim c.match-module_at.branch [

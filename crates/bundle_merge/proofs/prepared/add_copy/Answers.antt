@@ -4,7 +4,7 @@ use Rattle.std.proofs.lemmas.List.{map_push}
 use Rattle.std.proofs.lemmas.Option.{slice_get-get_or, slice_get_past}
 use Rattle.bundle_tree_ast.specs.declared.module.Module.{Module}
 use Rattle.bundle_tree_listed.specs.Tree.{module_item_items}
-use Rattle.bundle_merge_items.specs.Added.{items_of}
+use Rattle.bundle_merge_items.specs.Added.{module_item_lists}
 use Rattle.bundle_merge.proofs.Copied.{set-none, set-one}
 use Rattle.bundle_merge_items.proofs.Copies.{rebuilt-none}
 use Rattle.bundle_merge.proofs.prepared.add_copy.Goals as goal
@@ -20,7 +20,7 @@ returns-in_ok-push c =
     ∙ ap (λ x. Some x) (sym c.in-Some.ensures.value))
     (ap (map (module_item_items 0)) c.in_ok-push.ensures.items
     ∙ map_push (module_item_items 0) its.body.items c.in_ok-rebuild_item.field-0
-    ∙ ap (λ made. items_of its ++ made ∷ []) (c.in_ok-rebuild_item.ensures ∙ rebuilt-none item))
+    ∙ ap (λ made. module_item_lists its ++ made ∷ []) (c.in_ok-rebuild_item.ensures ∙ rebuilt-none item))
 
 pub returns-in_default : goal.returns-in_default
 returns-in_default c =

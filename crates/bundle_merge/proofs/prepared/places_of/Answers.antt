@@ -1,7 +1,7 @@
 -- One module more.
 use Rattle.std.proofs.Common.{ap, sym, ◌∙◌}
 use Rattle.bundle_order_graph.specs.Nodes.{added}
-use Rattle.bundle_link_reached.proofs.NumbersLemmas.{once-next}
+use Rattle.bundle_link.proofs.NumbersLemmas.{once-next}
 use Rattle.bundle_merge.proofs.prepared.places_of.Goals as goal
 
 pub loop-id-preserved : goal.loop-id-preserved

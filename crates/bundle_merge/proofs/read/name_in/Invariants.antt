@@ -1,6 +1,6 @@
 -- What is declared first is so among the elements that are left.
 use Rattle.std.proofs.Common.{◌≡◌, drop, map}
-use Rattle.bundle_tree_piece.specs.Item.{item_of}
+use Rattle.bundle_syntax.specs.Item.{item_of}
 use Rattle.bundle_merge.specs.Read.{first_declared}
 use Rattle.bundle_merge.proofs.read.name_in.Given as goal
 

@@ -2,7 +2,7 @@
 use Rattle.std.proofs.Common.{rules}
 use Rattle.std.proofs.lemmas.List.Sorted.{answers_always}
 use Rattle.bundle_merge_injected.specs.Listed.{pair_of}
-use Rattle.bundle_merge_forms.proofs.Order.{sorted_is}
+use Rattle.bundle_merge_forms.proofs.Objects.{sorted_is}
 use Rattle.bundle_merge_forms.proofs.exports.by_name.Goals as goal
 
 pub returns : goal.returns

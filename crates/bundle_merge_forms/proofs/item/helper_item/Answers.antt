@@ -8,10 +8,10 @@ use Rattle.bundle_merge_forms.proofs.item.helper_item.Goals as goal
 pub returns-clause-listed : goal.returns-clause-listed
 returns-clause-listed c =
     form.helper_named (stmt_items 0 c.in_ok-made.made) (ident_of c.name_of.result) (ident_of c.name_of-2.result) (ident_of c.name_of-3.result)
-    (id_ident c.args.helper) (id_ident c.args.func) (id_ident c.args.«module») c.in_ok-made.ensures c.name_of.ensures c.name_of-2.ensures c.name_of-3.ensures
+    (id_ident c.args.helper) (id_ident c.args.func) (id_ident c.args.module_object) c.in_ok-made.ensures c.name_of.ensures c.name_of-2.ensures c.name_of-3.ensures
 
 pub returns-clause-built : goal.returns-clause-built
 returns-clause-built c =
-    form.helper_item (id_ident c.args.helper) (id_ident c.args.func) (id_ident c.args.«module») (stmt_items 0 c.in_ok-made.made)
+    form.helper_item (id_ident c.args.helper) (id_ident c.args.func) (id_ident c.args.module_object) (stmt_items 0 c.in_ok-made.made)
     (form.helper_named (stmt_items 0 c.in_ok-made.made) (ident_of c.name_of.result) (ident_of c.name_of-2.result) (ident_of c.name_of-3.result)
-    (id_ident c.args.helper) (id_ident c.args.func) (id_ident c.args.«module») c.in_ok-made.ensures c.name_of.ensures c.name_of-2.ensures c.name_of-3.ensures)
+    (id_ident c.args.helper) (id_ident c.args.func) (id_ident c.args.module_object) c.in_ok-made.ensures c.name_of.ensures c.name_of-2.ensures c.name_of-3.ensures)

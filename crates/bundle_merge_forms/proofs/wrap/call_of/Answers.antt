@@ -4,7 +4,7 @@ use Rattle.std.proofs.lemmas.Result.{IfOk-weaker}
 use Rattle.bundle_tree_listed.specs.Tree.{each_stmt_items, stmt_items}
 use Rattle.bundle_tree_listed.proofs.Rows.{all_stmt}
 use Rattle.bundle_merge_injected.specs.Listed.{pair_of}
-use Rattle.bundle_merge_forms.proofs.Body.{called_is}
+use Rattle.bundle_merge_forms.proofs.Objects.{called_is}
 use Rattle.bundle_merge_forms.proofs.wrap.call_of.Goals as goal
 
 pub returns : goal.returns

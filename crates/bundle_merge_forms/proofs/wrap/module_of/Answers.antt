@@ -1,7 +1,7 @@
 -- A list of one.
 use Rattle.std.proofs.Common.{◌∙◌, ap, append-nil}
 use Rattle.std.specs.List.{flat_map}
-use Rattle.bundle_tree_piece.specs.Item as h
+use Rattle.bundle_syntax.specs.Item as h
 use Rattle.bundle_tree_listed.specs.Tree.{module_item_items, node, stmt_items}
 use Rattle.bundle_merge_forms.proofs.wrap.module_of.Goals as goal
 

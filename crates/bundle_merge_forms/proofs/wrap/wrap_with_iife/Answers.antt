@@ -1,6 +1,6 @@
 -- The call of one function is what the definitions wrap the module in.
 use Rattle.bundle_tree_listed.specs.Tree.{module_items, stmt_items}
-use Rattle.bundle_merge_forms.proofs.Body.{wrapped_whole}
+use Rattle.bundle_merge_forms.proofs.Objects.{wrapped_whole}
 use Rattle.bundle_merge_forms.proofs.wrap.wrap_with_iife.Goals as goal
 
 pub returns-clause-wrapped : goal.returns-clause-wrapped

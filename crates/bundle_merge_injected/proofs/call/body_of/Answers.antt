@@ -1,6 +1,6 @@
 -- No parameter.
 use Rattle.std.proofs.Common.{ap, ◌++◌, false}
-use Rattle.bundle_tree_piece.specs.Item as h
+use Rattle.bundle_syntax.specs.Item as h
 use Rattle.bundle_tree_listed.specs.Tree.{each_stmt_items, node, stmt_items}
 use Rattle.bundle_merge_injected.proofs.Parts.{no_param}
 use Rattle.bundle_merge_injected.proofs.call.body_of.Goals as goal

@@ -1,7 +1,7 @@
 -- A function in parentheses, called with no argument.
 use Rattle.std.proofs.Common.{◌∙◌, ap, append-nil, [], false}
 use Rattle.std.proofs.lemmas.Result.{IfOk-weaker}
-use Rattle.bundle_tree_piece.specs.Item as h
+use Rattle.bundle_syntax.specs.Item as h
 use Rattle.bundle_tree_listed.specs.Tree.{each_stmt_items, expr_items, node, stmt_items}
 use Rattle.bundle_merge_injected.specs.Listed.{call_in}
 use Rattle.bundle_merge_injected.proofs.call.call_of.Goals as goal

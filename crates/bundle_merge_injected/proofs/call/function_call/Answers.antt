@@ -1,6 +1,6 @@
 -- The object is returned behind the statements.
 use Rattle.std.proofs.Common.{◌∙◌, ap, ◌++◌}
-use Rattle.bundle_tree_piece.specs.Item as h
+use Rattle.bundle_syntax.specs.Item as h
 use Rattle.bundle_tree_listed.specs.Tree.{each_stmt_items, node, stmt_items}
 use Rattle.bundle_merge_injected.specs.Listed.{called}
 use Rattle.bundle_merge_injected.proofs.call.function_call.Goals as goal

@@ -1,6 +1,6 @@
 -- A word and an object.
 use Rattle.std.proofs.Common.{◌∙◌, ap, codes, ◌++◌}
-use Rattle.bundle_tree_piece.specs.Item as h
+use Rattle.bundle_syntax.specs.Item as h
 use Rattle.bundle_tree_listed.specs.Tree.{each_prop_or_spread_items, node, stmt_items}
 use Rattle.bundle_merge_injected.specs.Listed.{word_in}
 use Rattle.bundle_merge_injected.proofs.Parts.{no_property}

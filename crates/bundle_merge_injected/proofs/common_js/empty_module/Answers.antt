@@ -1,6 +1,6 @@
 -- One property, in a box.
 use Rattle.std.proofs.Common.{◌∙◌, ap}
-use Rattle.bundle_tree_piece.specs.Item as h
+use Rattle.bundle_syntax.specs.Item as h
 use Rattle.bundle_tree_listed.specs.Tree.{expr_items, node, stmt_items}
 use Rattle.bundle_merge_injected.specs.Listed.{exported}
 use Rattle.bundle_merge_injected.proofs.Parts.{one_property}

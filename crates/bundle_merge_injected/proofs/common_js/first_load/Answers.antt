@@ -1,6 +1,6 @@
 -- Two statements, in a box.
 use Rattle.std.proofs.Common.{◌∙◌, ap, ◌++◌}
-use Rattle.bundle_tree_piece.specs.Item as h
+use Rattle.bundle_syntax.specs.Item as h
 use Rattle.bundle_tree_listed.specs.Tree.{node, stmt_items}
 use Rattle.bundle_tree_places.specs.Marks.{ident_of}
 use Rattle.bundle_merge_injected.specs.Listed.{runs_module}
@@ -12,4 +12,4 @@ returns c =
     ap (stmt_items 1) c.in_ok-block.ensures.ok
     ∙ ap (node 1 h.BlockStmt) (c.in_ok-stmts.ensures
     ∙ ap (λ last. stmt_items 0 c.in_ok-make.make ++ last) c.in_ok-run.ensures
-    ∙ ap (λ front. front ++ runs_module (ident_of c.args.names.func) (ident_of c.args.names.«module»)) c.in_ok-make.ensures)
+    ∙ ap (λ front. front ++ runs_module (ident_of c.args.names.func) (ident_of c.args.names.module_object)) c.in_ok-make.ensures)

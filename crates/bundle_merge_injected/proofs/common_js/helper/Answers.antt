@@ -1,7 +1,7 @@
 -- A function with its name.
 use Rattle.std.proofs.Common.{◌∙◌, ap, ◌++◌}
-use Rattle.bundle_tree_piece.specs.declared.piece.Role.TheVariants.{Binding}
-use Rattle.bundle_tree_piece.specs.Item as h
+use Rattle.bundle_syntax.specs.declared.piece.Role.TheVariants.{Binding}
+use Rattle.bundle_syntax.specs.Item as h
 use Rattle.bundle_tree_listed.specs.Tree.{function_items, node, stmt_items}
 use Rattle.bundle_rules.specs.Idents.{Ident}
 use Rattle.bundle_tree_places.specs.Marks.{ident_of}

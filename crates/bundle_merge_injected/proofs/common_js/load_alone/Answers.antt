@@ -1,6 +1,6 @@
 -- A call of the name.
 use Rattle.std.proofs.Common.{ap}
-use Rattle.bundle_tree_piece.specs.Item as h
+use Rattle.bundle_syntax.specs.Item as h
 use Rattle.bundle_tree_listed.specs.Tree.{node, stmt_items}
 use Rattle.bundle_merge_injected.proofs.common_js.load_alone.Goals as goal
 

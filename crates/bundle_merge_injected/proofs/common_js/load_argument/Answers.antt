@@ -1,7 +1,7 @@
 -- A function with two parameters.
 use Rattle.std.proofs.Common.{◌∙◌, ap}
 use Rattle.std.proofs.lemmas.Result.{IfOk-weaker}
-use Rattle.bundle_tree_piece.specs.Item as h
+use Rattle.bundle_syntax.specs.Item as h
 use Rattle.bundle_tree_listed.specs.Tree.{each_stmt_items, node}
 use Rattle.bundle_merge_injected.specs.Listed.{argument, function_in}
 use Rattle.bundle_merge_injected.proofs.common_js.load_argument.Goals as goal

@@ -1,7 +1,7 @@
 -- A key and a pattern of one name.
 use Rattle.std.proofs.Common.{◌∙◌, ap, ◌++◌}
-use Rattle.bundle_tree_piece.specs.declared.piece.Role.TheVariants.{Binding}
-use Rattle.bundle_tree_piece.specs.Item as h
+use Rattle.bundle_syntax.specs.declared.piece.Role.TheVariants.{Binding}
+use Rattle.bundle_syntax.specs.Item as h
 use Rattle.bundle_tree_listed.specs.Tree.{node, pat_items, stmt_items}
 use Rattle.bundle_rules.specs.Forms.{returned_key}
 use Rattle.bundle_merge_injected.proofs.common_js.load_property.Goals as goal

@@ -1,8 +1,8 @@
 -- One declarator.
 use Rattle.std.proofs.Common.{◌∙◌, ap, map}
 use Rattle.std.proofs.lemmas.Result.{IfOk-weaker}
-use Rattle.bundle_tree_leaf.specs.declared.kind.VarDeclKind.TheVariants.{Var}
-use Rattle.bundle_tree_piece.specs.Item as h
+use Rattle.bundle_syntax.specs.declared.kind.VarDeclKind.TheVariants.{Var}
+use Rattle.bundle_syntax.specs.Item as h
 use Rattle.bundle_tree_listed.specs.Tree.{expr_items, node}
 use Rattle.bundle_rules.specs.Statements.{no_notes}
 use Rattle.bundle_merge_injected.specs.Listed.{declarator, load_pattern, pair_of}

@@ -1,9 +1,9 @@
 -- One declarator, and a second one where names are taken.
 use Rattle.std.proofs.Common.{◌∙◌, ap, sym, map, ◌++◌}
 use Rattle.std.proofs.lemmas.Result.{IfOk-weaker}
-use Rattle.bundle_tree_leaf.specs.declared.kind.VarDeclKind.TheVariants.{Var}
-use Rattle.bundle_tree_piece.specs.declared.piece.Role.TheVariants.{Reference}
-use Rattle.bundle_tree_piece.specs.Item as h
+use Rattle.bundle_syntax.specs.declared.kind.VarDeclKind.TheVariants.{Var}
+use Rattle.bundle_syntax.specs.declared.piece.Role.TheVariants.{Reference}
+use Rattle.bundle_syntax.specs.Item as h
 use Rattle.bundle_tree_listed.specs.Tree.{node}
 use Rattle.bundle_rules.specs.Statements.{no_notes}
 use Rattle.bundle_tree_places.specs.Marks.{ident_of}

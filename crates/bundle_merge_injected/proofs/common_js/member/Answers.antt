@@ -1,7 +1,7 @@
 -- A name, and a word of it.
 use Rattle.std.proofs.Common.{◌∙◌, ap, ◌++◌}
-use Rattle.bundle_tree_piece.specs.declared.piece.Role.TheVariants.{Reference}
-use Rattle.bundle_tree_piece.specs.Item as h
+use Rattle.bundle_syntax.specs.declared.piece.Role.TheVariants.{Reference}
+use Rattle.bundle_syntax.specs.Item as h
 use Rattle.bundle_tree_listed.specs.Tree.{ident_name_items, node, stmt_items}
 use Rattle.bundle_tree_places.specs.Marks.{ident_of}
 use Rattle.bundle_merge_injected.specs.Listed.{named}

@@ -1,7 +1,7 @@
 -- A name.
 use Rattle.std.proofs.Common.{ap}
-use Rattle.bundle_tree_leaf.specs.declared.operator.UnaryOp.TheVariants.{Bang}
-use Rattle.bundle_tree_piece.specs.Item as h
+use Rattle.bundle_syntax.specs.declared.operator.UnaryOp.TheVariants.{Bang}
+use Rattle.bundle_syntax.specs.Item as h
 use Rattle.bundle_tree_listed.specs.Tree.{node, stmt_items}
 use Rattle.bundle_merge_injected.proofs.common_js.not_loaded.Goals as goal
 

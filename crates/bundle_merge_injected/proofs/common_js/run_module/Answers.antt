@@ -1,6 +1,6 @@
 -- A call.
 use Rattle.std.proofs.Common.{◌∙◌, ap, codes}
-use Rattle.bundle_tree_piece.specs.Item as h
+use Rattle.bundle_syntax.specs.Item as h
 use Rattle.bundle_tree_listed.specs.Tree.{each_expr_or_spread_items, node, stmt_items}
 use Rattle.bundle_tree_places.specs.Marks.{ident_of}
 use Rattle.bundle_merge_injected.specs.Listed.{call_in, member}

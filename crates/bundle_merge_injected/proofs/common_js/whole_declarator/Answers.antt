@@ -1,6 +1,6 @@
 -- A pattern of one name, and a call.
 use Rattle.std.proofs.Common.{◌∙◌, ap}
-use Rattle.bundle_tree_piece.specs.declared.piece.Role.TheVariants.{Binding}
+use Rattle.bundle_syntax.specs.declared.piece.Role.TheVariants.{Binding}
 use Rattle.bundle_tree_listed.specs.Tree.{expr_items}
 use Rattle.bundle_tree_places.specs.Marks.{ident_of}
 use Rattle.bundle_merge_injected.specs.Listed.{declarator, pattern_of}

@@ -1,6 +1,6 @@
 -- One declarator.
 use Rattle.std.proofs.Common.{ap, refl}
-use Rattle.bundle_tree_piece.specs.Item as h
+use Rattle.bundle_syntax.specs.Item as h
 use Rattle.bundle_tree_listed.specs.Tree.{node, stmt_items, var_declarator_items}
 use Rattle.bundle_merge_injected.proofs.Parts.{one_declarator}
 use Rattle.bundle_merge_injected.proofs.declaration.declared.Goals as goal

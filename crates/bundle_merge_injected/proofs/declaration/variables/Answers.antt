@@ -1,7 +1,7 @@
 -- Two declarators.
 use Rattle.std.proofs.Common.{ap, refl}
-use Rattle.bundle_tree_leaf.specs.declared.kind.VarDeclKind.TheVariants.{Var}
-use Rattle.bundle_tree_piece.specs.Item as h
+use Rattle.bundle_syntax.specs.declared.kind.VarDeclKind.TheVariants.{Var}
+use Rattle.bundle_syntax.specs.Item as h
 use Rattle.bundle_tree_listed.specs.Tree.{node, stmt_items, var_declarator_items}
 use Rattle.bundle_rules.specs.Statements.{no_notes}
 use Rattle.bundle_merge_injected.proofs.Parts.{two_declarators}

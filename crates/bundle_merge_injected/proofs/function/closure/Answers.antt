@@ -1,6 +1,6 @@
 -- No parameter.
 use Rattle.std.proofs.Common.{◌∙◌, ap}
-use Rattle.bundle_tree_piece.specs.Item as h
+use Rattle.bundle_syntax.specs.Item as h
 use Rattle.bundle_tree_listed.specs.Tree.{each_stmt_items, node}
 use Rattle.bundle_merge_injected.specs.Listed.{function_in}
 use Rattle.bundle_merge_injected.proofs.Parts.{no_param}

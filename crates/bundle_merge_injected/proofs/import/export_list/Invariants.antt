@@ -1,6 +1,6 @@
 -- The specifiers so far are those of the names passed.
 use Rattle.std.proofs.Common.{◌≡◌, flat_map, map, take}
-use Rattle.bundle_tree_piece.specs.declared.piece.Role.TheVariants.{Reference}
+use Rattle.bundle_syntax.specs.declared.piece.Role.TheVariants.{Reference}
 use Rattle.bundle_tree_listed.specs.Tree.{export_specifier_items}
 use Rattle.bundle_merge_injected.specs.Listed.{export_specifier, pair_of}
 use Rattle.bundle_merge_injected.proofs.import.export_list.Given as goal

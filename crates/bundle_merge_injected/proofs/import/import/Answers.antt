@@ -1,6 +1,6 @@
 -- The specifiers, and the string behind them.
 use Rattle.std.proofs.Common.{ap, flat_map, ◌++◌}
-use Rattle.bundle_tree_piece.specs.Item as h
+use Rattle.bundle_syntax.specs.Item as h
 use Rattle.bundle_tree_listed.specs.Tree.{import_specifier_items, node}
 use Rattle.bundle_rules.specs.Statements.{no_notes}
 use Rattle.bundle_merge_injected.proofs.import.import.Goals as goal

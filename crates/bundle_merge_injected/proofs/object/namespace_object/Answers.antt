@@ -1,7 +1,7 @@
 -- A constant whose value is the call of a function that returns the object.
 use Rattle.std.proofs.Common.{◌∙◌, ap, []}
 use Rattle.std.proofs.lemmas.Result.{IfOk-weaker}
-use Rattle.bundle_tree_piece.specs.Item as h
+use Rattle.bundle_syntax.specs.Item as h
 use Rattle.bundle_tree_listed.specs.Tree.{node}
 use Rattle.bundle_tree_places.specs.Marks.{ident_of}
 use Rattle.bundle_merge_injected.specs.Listed.{call_in, constant, function_in}

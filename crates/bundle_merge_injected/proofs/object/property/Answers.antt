@@ -1,7 +1,7 @@
 -- A key and a name.
 use Rattle.std.proofs.Common.{◌∙◌, ap, ◌∷◌, [], ◌++◌, append_assoc}
-use Rattle.bundle_tree_piece.specs.declared.piece.Role.TheVariants.{Reference}
-use Rattle.bundle_tree_piece.specs.Item as h
+use Rattle.bundle_syntax.specs.declared.piece.Role.TheVariants.{Reference}
+use Rattle.bundle_syntax.specs.Item as h
 use Rattle.bundle_tree_listed.specs.Tree.{expr_items, node, stmt_items}
 use Rattle.bundle_rules.specs.Forms.{returned_key}
 use Rattle.bundle_tree_places.specs.Marks.{ident_of}

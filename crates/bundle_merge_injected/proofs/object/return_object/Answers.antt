@@ -1,7 +1,7 @@
 -- The object in a `return`.
 use Rattle.std.proofs.Common.{◌∙◌, ap, ◌∷◌, [], append_assoc, map}
 use Rattle.std.specs.List.{flat_map}
-use Rattle.bundle_tree_piece.specs.Item as h
+use Rattle.bundle_syntax.specs.Item as h
 use Rattle.bundle_tree_listed.specs.Tree.{node, stmt_items}
 use Rattle.bundle_rules.specs.Forms.{returned_property}
 use Rattle.bundle_merge_injected.specs.Listed.{pair_of}

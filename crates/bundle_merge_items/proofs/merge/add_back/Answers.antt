@@ -1,9 +1,8 @@
 -- The stars, and then what is exported.
 use Rattle.std.proofs.Common.{map}
 use Rattle.bundle_rules.specs.Bundle.{Exports, Stars}
-use Rattle.bundle_merge_whole.specs.planned.Decided.{one_if}
-use Rattle.bundle_merge_items.proofs.Behind.{plan-made, plan-on}
-use Rattle.bundle_merge_items.proofs.Planned.{exports-made}
+use Rattle.bundle_merge_theory.specs.planned.Decided.{one_if}
+use Rattle.bundle_merge_items.proofs.Behind.{plan-made, plan-on, exports-made}
 use Rattle.bundle_merge_items.proofs.merge.add_back.Goals as goal
 
 pub returns : goal.returns

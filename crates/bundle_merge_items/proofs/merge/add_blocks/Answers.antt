@@ -1,8 +1,7 @@
 -- One block more.
-use Rattle.std.proofs.Common.{◌≡◌, ℕ, subst, sym, get_or}
+use Rattle.std.proofs.Common.{subst, sym}
 use Rattle.std.specs.Prelude.{Contains}
 use Rattle.std.proofs.lemmas.List.Elements.{Contains-get_or}
-use Rattle.bundle_order_sort.specs.declared.plan.Block.{Block}
 use Rattle.bundle_merge_items.proofs.Behind.{blocks-none, blocks-next, blocks-all}
 use Rattle.bundle_merge_items.proofs.merge.add_blocks.Goals as goal
 

@@ -1,5 +1,5 @@
 -- The items of the blocks that were passed are added.
-use Rattle.std.proofs.Common.{List, take}
+use Rattle.std.proofs.Common.{take}
 use Rattle.bundle_merge_items.specs.Blocks.{AddsBlocks, InBundle}
 use Rattle.bundle_merge_items.specs.Merged.{AreBlocksOnce}
 use Rattle.bundle_merge_items.proofs.merge.add_blocks.Given as goal

@@ -2,7 +2,7 @@
 use Rattle.std.specs.Prelude.{flat_map}
 use Rattle.std.specs.List.{list_any}
 use Rattle.bundle_rules.specs.Bundle.{Helps}
-use Rattle.bundle_merge_whole.specs.planned.Decided.{external_plan, one_if}
+use Rattle.bundle_merge_theory.specs.planned.Decided.{external_plan, one_if}
 use Rattle.bundle_merge_items.proofs.Behind.{plan-on}
 use Rattle.bundle_merge_items.proofs.merge.add_front.Goals as goal
 

@@ -3,9 +3,8 @@ use Rattle.std.proofs.Common.{◌∷◌, [], sym, ap, ◌∙◌}
 use Rattle.std.specs.List.{list_any}
 use Rattle.bundle_rules.specs.Bundle.{Helps}
 use Rattle.bundle_merge_items.specs.Added.{helper_of}
-use Rattle.bundle_merge_whole.specs.planned.Decided.{one_if}
-use Rattle.bundle_merge_items.proofs.Behind.{plan-made, plan-none}
-use Rattle.bundle_merge_items.proofs.Planned.{helper-made, helper-decided}
+use Rattle.bundle_merge_theory.specs.planned.Decided.{one_if}
+use Rattle.bundle_merge_items.proofs.Behind.{plan-made, plan-none, helper-made, helper-decided}
 use Rattle.bundle_merge_items.proofs.merge.add_helpers.Goals as goal
 
 pub returns-then-not-has_common_js : goal.returns-then-not-has_common_js

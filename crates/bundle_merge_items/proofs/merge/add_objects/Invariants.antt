@@ -2,10 +2,10 @@
 use Rattle.std.proofs.Common.{take}
 use Rattle.std.specs.Prelude.{flat_map}
 use Rattle.bundle_merge_items.specs.Blocks.{AddsOwned}
-use Rattle.bundle_merge_whole.specs.planned.Decided.{object_plan}
+use Rattle.bundle_merge_theory.specs.planned.Decided.{object_plan}
 use Rattle.bundle_merge_items.proofs.merge.add_objects.Given as goal
 
-abbrev pub invariant-loop-module : goal.invariant-loop-module
-invariant-loop-module l =
-    AddsOwned l.bundle l.names (λ d. flat_map (object_plan d) (take l.module-index l.module-items))
+abbrev pub invariant-loop-which : goal.invariant-loop-which
+invariant-loop-which l =
+    AddsOwned l.bundle l.names (λ d. flat_map (object_plan d) (take l.which-index l.which-items))
     l.initial.its l.its l.initial.owners.items l.owners.items

@@ -3,19 +3,18 @@ use Rattle.std.proofs.Common.{◌++◌, ◌∷◌, [], ℕ, List, get_or, map, s
 use Rattle.std.specs.Prelude.{flat_map}
 use Rattle.std.specs.Borrow.{Bor}
 use Rattle.std.proofs.lemmas.List.{get_or_default}
-use Rattle.bundle_tree_piece.specs.Item.{Item}
+use Rattle.bundle_syntax.specs.Item.{Item}
 use Rattle.bundle_rules.specs.Bundle.{Stars}
 use Rattle.bundle_merge_injected.specs.Listed.{export_star}
-use Rattle.bundle_merge_items.specs.Added.{items_of}
-use Rattle.bundle_merge_items.proofs.Behind.{behind-all, behind-next, plan-made}
-use Rattle.bundle_merge_items.proofs.Planned.{stars-made}
+use Rattle.bundle_merge_items.specs.Added.{module_item_lists}
+use Rattle.bundle_merge_items.proofs.Behind.{behind-all, behind-next, plan-made, stars-made}
 use Rattle.bundle_merge_items.proofs.merge.add_stars.Goals as goal
 
 abbrev star_of : Bor (List ℕ) → List (List Item)
 star_of star = export_star star.now ∷ []
 
 pub loop-specifier-init : goal.loop-specifier-init
-loop-specifier-init c = sym (append-nil (items_of c.args.items.now))
+loop-specifier-init c = sym (append-nil (module_item_lists c.args.items.now))
 
 pub loop-specifier-preserved : goal.loop-specifier-preserved
 loop-specifier-preserved c =
@@ -27,7 +26,7 @@ loop-specifier-preserved c =
     c.add_item.new.items c.loop-specifier-test.true
     (get_or_default found i none star c.loop-specifier-test.true) c.loop-specifier.invariant
     (c.in_ok-add_item.ensures
-    ∙ ap (λ (x : List Item). items_of c.loop-specifier.items ++ x ∷ []) c.in_ok-export_star.ensures)
+    ∙ ap (λ (x : List Item). module_item_lists c.loop-specifier.items ++ x ∷ []) c.in_ok-export_star.ensures)
 
 pub returns : goal.returns
 returns c =

@@ -2,7 +2,7 @@
 use Rattle.std.proofs.Common.{ap, map, ◌∙◌}
 use Rattle.std.proofs.lemmas.Result.{IfOk-weaker}
 use Rattle.bundle_rules.specs.Statements.{no_notes}
-use Rattle.bundle_link_index.specs.declared.target.Target.TheVariants.{Namespace}
+use Rattle.bundle_link_index.specs.declared.target.TargetRef.TheVariants.{Namespace}
 use Rattle.bundle_merge_injected.specs.Listed.{namespace_object, pair_of}
 use Rattle.bundle_merge_names.specs.Idents.{target_ident}
 use Rattle.bundle_merge_items.proofs.merge.namespace_stmt.Goals as goal
@@ -17,7 +17,7 @@ returns c =
           ∙ ap (λ ident. namespace_object no_notes ident (map pair_of c.deref.result.now))
           c.target-object.ensures
           ∙ ap (λ pairs. namespace_object no_notes
-          (target_ident c.args.names.now (Namespace c.args.module)) (map pair_of pairs))
+          (target_ident c.args.names.now (Namespace c.args.which)) (map pair_of pairs))
           c.deref.ensures.value;
     })
     c.namespace_object.ensures

@@ -1,9 +1,9 @@
 -- The items of the modules and of the objects, in the order that was found.
-use Rattle.std.proofs.Common.{◌≡◌, List, Option, ℕ, [], ap, subst, sym, ◌∙◌}
+use Rattle.std.proofs.Common.{◌≡◌, List, subst}
 use Rattle.std.specs.Prelude.{flat_map, length}
-use Rattle.bundle_merge_items.specs.Added.{items_of}
-use Rattle.bundle_merge_items.specs.Blocks.{AddsOwned, AreWithin, IsPlaced}
-use Rattle.bundle_merge_whole.specs.planned.Decided.{Decided, module_plan}
+use Rattle.bundle_merge_items.specs.Added.{module_item_lists}
+use Rattle.bundle_merge_items.specs.Blocks.{AddsOwned, AreBundleModules, IsBlockPlaced}
+use Rattle.bundle_merge_theory.specs.planned.Decided.{Decided, module_plan}
 use Rattle.bundle_order.specs.Owned.{AreTogether}
 use Rattle.bundle_merge_items.proofs.Behind.{block-put}
 use Rattle.bundle_merge_items.proofs.merge.put_block.Goals as goal
@@ -19,9 +19,9 @@ returns c = λ once there empty.
     let plan : Decided → List _ = λ d. flat_map (module_plan d) block.places.items in
     block-put bundle names block c.args.its.now its mid c.sort_cycle.new.its owners
     c.add_objects.new.owners.items once there empty
-    (subst (λ l. AreWithin bundle block.places.items → AddsOwned bundle names plan c.args.its.now its l owners)
+    (subst (λ l. AreBundleModules bundle block.places.items → AddsOwned bundle names plan c.args.its.now its l owners)
     c.new-owners.ensures.items c.in_ok-add_modules.ensures)
     c.in_ok-add_objects.ensures
     (subst (λ l. length l ≡ length mid.body.items → AreTogether l →
-    IsPlaced block.is_cycle (items_of mid) l (items_of c.sort_cycle.new.its))
+    IsBlockPlaced block.is_cycle (module_item_lists mid) l (module_item_lists c.sort_cycle.new.its))
     c.deref.ensures.value c.in_ok-sort_cycle.ensures)

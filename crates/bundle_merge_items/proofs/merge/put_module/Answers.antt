@@ -9,9 +9,9 @@ returns c = λ within.
     let parts = c.args.bundle.now.parts.now in
     let long : c.len.result ≡ length c.add_module.new.items.body.items =
     omega (arith, c.len.ensures, c.add_module.new.items.body.ok.0) in
-    put-module c.args.bundle.now c.args.names.now c.args.module c.args.its.now c.add_module.new.items
+    put-module c.args.bundle.now c.args.names.now c.args.which c.args.its.now c.add_module.new.items
     c.args.owners.now.items c.note_owner.new.owners.items c.len.result
     (c.in_ok-add_module.ensures
-    (slice_get_read parts (length parts) c.args.module c.in-Some.part.now refl within
+    (slice_get_read parts (length parts) c.args.which c.in-Some.part.now refl within
     c.in-Some.ensures.lookup.1))
     c.in_ok-note_owner.ensures long

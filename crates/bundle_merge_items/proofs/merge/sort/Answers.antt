@@ -1,5 +1,5 @@
 -- The items are picked in the order that was found, which is good.
-use Rattle.bundle_merge_items.proofs.Sorting.{sorted-placed}
+use Rattle.bundle_merge_items.proofs.Behind.{sorted-placed}
 use Rattle.bundle_merge_items.proofs.merge.sort.Goals as goal
 
 pub returns : goal.returns

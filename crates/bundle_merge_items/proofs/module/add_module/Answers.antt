@@ -2,7 +2,7 @@
 use Rattle.std.proofs.Common.{map}
 use Rattle.std.proofs.lemmas.Result.{on_ok_weaker}
 use Rattle.bundle_tree_listed.specs.Tree.{stmt_items}
-use Rattle.bundle_merge_items.proofs.Planning.{module-adds, script-adds}
+use Rattle.bundle_merge_items.proofs.LackLemmas.{module-adds, script-adds}
 use Rattle.bundle_merge_items.proofs.module.add_module.Goals as goal
 
 pub returns-then-is_common_js : goal.returns-then-is_common_js
@@ -10,7 +10,7 @@ returns-then-is_common_js c =
     on_ok_weaker c.add_load_function.result
     (λ adds at q list answers context causes named planned.
     script-adds q list answers context c.args.bundle.now c.args.names.now named causes
-    c.args.module c.args.part.now at planned
+    c.args.which c.args.part.now at planned
     c.is_common_js.result (c.is_common_js.ensures q named.parts.linking) c.if-is_common_js.true
     (map (stmt_items 0) c.in_ok-own.own.items)
     (λ kind has. c.in_ok-own.ensures q list answers context kind named at has)
@@ -23,7 +23,7 @@ returns-else-is_common_js c =
     on_ok_weaker c.add_es.result
     (λ adds at q list answers context causes named planned.
     module-adds q list answers context c.args.bundle.now c.args.names.now named causes
-    c.args.module c.args.part.now at planned
+    c.args.which c.args.part.now at planned
     c.is_common_js.result (c.is_common_js.ensures q named.parts.linking) c.if-is_common_js.false
     (map (stmt_items 0) c.in_ok-own.own.items)
     (λ kind has. c.in_ok-own.ensures q list answers context kind named at has)

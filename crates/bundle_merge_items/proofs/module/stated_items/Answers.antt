@@ -4,7 +4,7 @@ use Rattle.std.proofs.lemmas.List.{length-map}
 use Rattle.bundle_tree_listed.specs.Tree.{stmt_items}
 use Rattle.bundle_tree_places.specs.Marks.{ident_of}
 use Rattle.bundle_tree_places.specs.Parted.{part_items}
-use Rattle.bundle_merge_items.proofs.Turning.{turned-next, turned-all}
+use Rattle.bundle_merge_items.proofs.Adding.{turned-next, turned-all}
 use Rattle.bundle_merge_items.proofs.module.stated_items.Goals as goal
 
 pub loop-item-preserved : goal.loop-item-preserved

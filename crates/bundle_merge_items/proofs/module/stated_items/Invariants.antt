@@ -3,7 +3,7 @@ use Rattle.std.proofs.Common.{map, option_map}
 use Rattle.bundle_tree_listed.specs.Tree.{stmt_items}
 use Rattle.bundle_tree_places.specs.Marks.{ident_of}
 use Rattle.bundle_tree_places.specs.Parted.{part_items}
-use Rattle.bundle_merge_items.proofs.Turning.{StatesBehind}
+use Rattle.bundle_merge_items.proofs.Adding.{StatesBehind}
 use Rattle.bundle_merge_items.proofs.module.stated_items.Given as goal
 
 abbrev pub invariant-loop-item : goal.invariant-loop-item

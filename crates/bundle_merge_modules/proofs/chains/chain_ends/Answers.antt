@@ -1,6 +1,6 @@
 use Rattle.std.proofs.Common.{List, ℕ, subst}
 use Rattle.bundle_merge_modules.specs.Chains.{AreLast, HasOpen}
-use Rattle.bundle_merge_modules.proofs.WalkLemmas.{AreEnds-last, AreWithin-given, HasRing-open}
+use Rattle.bundle_merge_modules.proofs.AliasLemmas.{AreEnds-last, AreWithin-given, HasRing-open}
 use Rattle.bundle_merge_modules.proofs.chains.chain_ends.Goals as goal
 
 pub are_last-requires : goal.are_last-requires

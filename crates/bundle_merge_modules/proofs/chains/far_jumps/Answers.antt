@@ -1,7 +1,7 @@
 use Rattle.std.proofs.Common.{◌≡◌, List, ℕ, get_or, length, sym, ap, subst, ◌∙◌, arith}
 use Rattle.std.specs.Prelude.{map}
-use Rattle.bundle_merge_modules.specs.Chains.{AreWithin}
-use Rattle.bundle_merge_modules.proofs.WalkLemmas.{AreJumps-twice, AreWithin-given}
+use Rattle.bundle_merge_modules.specs.Chains.{AreNumbersBelow}
+use Rattle.bundle_merge_modules.proofs.AliasLemmas.{AreJumps-twice, AreWithin-given}
 use Rattle.bundle_merge_modules.proofs.chains.far_jumps.Goals as goal
 
 pub doubled-requires : goal.doubled-requires
@@ -9,7 +9,7 @@ doubled-requires c =
     let given = c.deref.result.now in
     let now = c.loop-reach.jumps.items in
     let is : given ≡ now = c.deref.ensures.value in
-    subst (λ n. AreWithin given n) (sym (ap length is ∙ c.loop-reach.invariant.jumps.len))
+    subst (λ n. AreNumbersBelow given n) (sym (ap length is ∙ c.loop-reach.invariant.jumps.len))
     (AreWithin-given c.args.next.now c.loop-reach.reach now given c.requires c.loop-reach.invariant.jumps is)
 
 pub loop-reach-preserved : goal.loop-reach-preserved

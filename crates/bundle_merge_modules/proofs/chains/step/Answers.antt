@@ -1,6 +1,6 @@
 use Rattle.std.proofs.Common.{Some, None, sym, ap}
 use Rattle.bundle_merge_modules.specs.Chains.{step_to}
-use Rattle.bundle_merge_modules.proofs.WalkLemmas.{read_at}
+use Rattle.bundle_merge_modules.proofs.AliasLemmas.{read_at}
 use Rattle.bundle_merge_modules.proofs.chains.step.Goals as goal
 
 pub returns-in-Some : goal.returns-in-Some

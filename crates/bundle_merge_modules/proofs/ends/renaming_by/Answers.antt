@@ -2,7 +2,7 @@ use Rattle.std.proofs.Common.{◌<◌, length, refl, sym, ap, ◌∙◌, arith}
 use Rattle.std.specs.Prelude.{slice_index}
 use Rattle.std.proofs.lemmas.List.{get_or_read}
 use Rattle.std.proofs.lemmas.Option.{slice_get_read}
-use Rattle.bundle_merge_modules.specs.Pairs.{Pair}
+use Rattle.bundle_merge_modules.specs.Pairs.{AliasPair}
 use Rattle.bundle_merge_modules.proofs.PairLemmas.{AreSteps-more}
 use Rattle.bundle_merge_modules.proofs.ends.renaming_by.Goals as goal
 
@@ -18,4 +18,4 @@ loop-number-preserved c =
     let end_within : slice_index ends i < length pairs = c.requires.within i (omega (arith, within, c.requires.len)) in
     let at_end = slice_get_read pairs (length pairs) (slice_index ends i) to refl end_within (get_or_read pairs (slice_index ends i) to end_within c.index-pairs-ends.is to) in
     AreSteps-more pairs ends i c.loop-number.renaming c.insert.new.self from to c.in_ok-clone.field-0 c.in_ok-end.end at at_end
-    c.in_ok-clone.ensures.cases (c.in_ok-end.ensures.cases ∙ ap (λ (p : Pair). p.1) (sym c.index-pairs-ends.is)) c.in_ok-insert.ensures.ok c.loop-number.invariant
+    c.in_ok-clone.ensures.cases (c.in_ok-end.ensures.cases ∙ ap (λ (p : AliasPair). p.1) (sym c.index-pairs-ends.is)) c.in_ok-insert.ensures.ok c.loop-number.invariant

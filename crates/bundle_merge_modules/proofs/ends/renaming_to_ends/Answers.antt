@@ -2,8 +2,8 @@ use Rattle.std.proofs.Common.{◌≡◌, ℕ, List, Option, length, sym, subst, 
 use Rattle.std.specs.BTreeMap.{get}
 use Rattle.std.proofs.lemmas.List.{length-map}
 use Rattle.bundle_tree.specs.IdName.{name_cmp}
-use Rattle.bundle_merge_modules.specs.Chains.{AreEnds, AreWithin, HasRing, LeadsWithin}
-use Rattle.bundle_merge_modules.specs.Pairs.{AreSteps, Pair, next_by}
+use Rattle.bundle_merge_modules.specs.Chains.{AreEnds, AreNumbersBelow, HasRing, LeadsWithin}
+use Rattle.bundle_merge_modules.specs.Pairs.{AreRenamingSteps, AliasPair, next_by}
 use Rattle.bundle_merge_modules.proofs.PairLemmas.{LeadsToEnds-steps, cycle_of, ends-within, no_cycle, within}
 use Rattle.bundle_merge_modules.proofs.ends.renaming_to_ends.Goals as goal
 
@@ -19,8 +19,8 @@ renaming_by-requires-clause-within c =
     let ends = c.in-Some.ends.items in
     let is = c.deref.ensures.value ∙ c.in_ok-next.ensures in
     let all = subst (λ (l : List (Option ℕ)). AreEnds l ends) is (rw c.in-Some.is at c.in_ok-ends.ensures.ends) in
-    let len : length next ≡ length pairs = length-map pairs (λ (pair : Pair). get name_cmp c.in_ok-numbers.numbers pair.1) in
-    subst (λ (l : List ℕ). AreWithin l (length pairs)) (sym c.deref-in-Some.ensures.value) (subst (λ n. AreWithin ends n) len (ends-within next ends all))
+    let len : length next ≡ length pairs = length-map pairs (λ (pair : AliasPair). get name_cmp c.in_ok-numbers.numbers pair.1) in
+    subst (λ (l : List ℕ). AreNumbersBelow l (length pairs)) (sym c.deref-in-Some.ensures.value) (subst (λ n. AreNumbersBelow ends n) len (ends-within next ends all))
 
 pub returns-in-Some-clause-ends : goal.returns-in-Some-clause-ends
 returns-in-Some-clause-ends c =
@@ -29,7 +29,7 @@ returns-in-Some-clause-ends c =
     let renaming = c.in_ok-renaming_by-in-Some.field-0 in
     let is = c.deref.ensures.value ∙ c.in_ok-next.ensures in
     let all = subst (λ (l : List (Option ℕ)). AreEnds l ends) is (rw c.in-Some.is at c.in_ok-ends.ensures.ends) in
-    let steps = subst (λ (l : List ℕ). AreSteps pairs l (length pairs) renaming) c.deref-in-Some.ensures.value c.in_ok-renaming_by-in-Some.ensures in
+    let steps = subst (λ (l : List ℕ). AreRenamingSteps pairs l (length pairs) renaming) c.deref-in-Some.ensures.value c.in_ok-renaming_by-in-Some.ensures in
     LeadsToEnds-steps pairs c.in_ok-numbers.numbers ends renaming c.in_ok-numbers.ensures all steps
 
 pub returns-in-Some-clause-none : goal.returns-in-Some-clause-none

@@ -1,7 +1,7 @@
 use Rattle.std.proofs.Common.{ap, map, ◌∙◌}
 use Rattle.std.proofs.lemmas.Result.{on_ok_weaker}
 use Rattle.bundle_marks.specs.Idents.{pair_named}
-use Rattle.bundle_merge_modules.proofs.InlineLemmas.{cycle_from, inlines, no_cycle_from}
+use Rattle.bundle_merge_modules.proofs.InlinedLemmas.{cycle_from, inlines, no_cycle_from}
 use Rattle.bundle_merge_modules.proofs.inline.inline.Goals as goal
 
 pub returns-in-Ok-Some-clause-inlined : goal.returns-in-Ok-Some-clause-inlined

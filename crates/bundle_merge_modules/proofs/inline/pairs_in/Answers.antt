@@ -6,7 +6,7 @@ use Rattle.bundle_tree_listed.specs.Tree.{module_item_items}
 use Rattle.bundle_rules.specs.Idents.{Ident}
 use Rattle.bundle_marks.specs.Idents.{pair_named}
 use Rattle.bundle_merge_modules.specs.Made.{alias_list}
-use Rattle.bundle_merge_modules.proofs.InlineLemmas.{made_by}
+use Rattle.bundle_merge_modules.proofs.InlinedLemmas.{made_by}
 use Rattle.bundle_merge_modules.proofs.inline.pairs_in.Goals as goal
 
 abbrev left_of : List (ℕ × ModuleItem) → List (Ident × Ident)

@@ -3,7 +3,7 @@ use Rattle.std.proofs.Common.{◌≡◌, ◌++◌, map}
 use Rattle.bundle_merge_modules.specs.Held.{trees_of}
 use Rattle.bundle_rules.specs.Parts.{in_order}
 use Rattle.bundle_marks.specs.Idents.{pair_named}
-use Rattle.bundle_merge_modules.proofs.InlineLemmas.{made_by}
+use Rattle.bundle_merge_modules.proofs.InlinedLemmas.{made_by}
 use Rattle.bundle_merge_modules.proofs.inline.pairs_in.Given as goal
 
 abbrev pub invariant-loop-item : goal.invariant-loop-item

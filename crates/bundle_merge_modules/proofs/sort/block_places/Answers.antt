@@ -1,7 +1,7 @@
 use Rattle.std.proofs.Common.{◌≡◌, ◌<◌, All, ℕ, Vec, Global, List, length, map, sym, ap, ◌∙◌, subst}
 use Rattle.std.specs.Prelude.{slice_index}
-use Rattle.bundle_tree_piece.specs.declared.piece.Piece.{Piece}
-use Rattle.bundle_tree_piece.specs.Item.{Item, item_of}
+use Rattle.bundle_syntax.specs.declared.piece.Piece.{Piece}
+use Rattle.bundle_syntax.specs.Item.{Item, item_of}
 use Rattle.bundle_tree_listed.specs.Tree.{module_item_items}
 use Rattle.bundle_merge_modules.specs.Placed.{tree_at, trees_lent}
 use Rattle.bundle_merge_modules.proofs.PlacedLemmas.{drawn, put-ordered}

@@ -1,6 +1,6 @@
 -- The lists of the items at the places that were passed.
 use Rattle.std.proofs.Common.{◌≡◌, map, take}
-use Rattle.bundle_tree_piece.specs.Item.{item_of}
+use Rattle.bundle_syntax.specs.Item.{item_of}
 use Rattle.bundle_merge_modules.specs.Placed.{tree_at, trees_lent}
 use Rattle.bundle_merge_modules.proofs.sort.lists_at.Given as goal
 

@@ -3,13 +3,13 @@ use Rattle.std.specs.List.{AllZip}
 use Rattle.std.proofs.lemmas.List.{take_more}
 use Rattle.bundle_order_sort.specs.declared.plan.Block.{Block}
 use Rattle.bundle_order_sort.proofs.PlanLemmas.{flat-push}
-use Rattle.bundle_merge_modules.specs.Placed.{IsBlockPut, trees_lent}
+use Rattle.bundle_merge_modules.specs.Placed.{IsAnyBlockPut, trees_lent}
 use Rattle.bundle_merge_modules.proofs.PlacedLemmas.{zip-push}
 use Rattle.bundle_merge_modules.proofs.sort.order_by.Goals as goal
 
 pub loop-block-preserved : goal.loop-block-preserved
 loop-block-preserved c =
-    let puts = IsBlockPut (trees_lent c.args.items.now) in
+    let puts = IsAnyBlockPut (trees_lent c.args.items.now) in
     let blocks = c.args.plan.now.blocks.items in
     let here = c.deref-block-items.result.now in
     let i = c.loop-block.block-index in

@@ -1,8 +1,8 @@
 -- What the table tells are the steps of what is denoted.
 use Rattle.std.proofs.Common.{map}
 use Rattle.std.proofs.lemmas.Result.{IfOk-weaker}
-use Rattle.bundle_tree_piece.specs.Item.{item_of}
-use Rattle.bundle_merge_names.proofs.OwnLemmas.{own-steps}
+use Rattle.bundle_syntax.specs.Item.{item_of}
+use Rattle.bundle_merge_names.proofs.SomeLemmas.{own-steps}
 use Rattle.bundle_merge_names.proofs.body.own_names.Goals as goal
 
 pub returns : goal.returns

@@ -2,12 +2,12 @@
 use Rattle.std.proofs.Common.{◌+◌, length, refl, subst, arith}
 use Rattle.std.proofs.lemmas.Option.{slice_get_read}
 use Rattle.bundle_scope_denote.proofs.LoopLemmas.{take-whole}
-use Rattle.bundle_merge_names.specs.Added.{AddsNames, IsOfExternals}
-use Rattle.bundle_merge_names.proofs.GivenLemmas.{OfExternal, external-takable, externals-from, externals-to}
+use Rattle.bundle_merge_names.specs.Added.{GivesNames, IsOfExternals}
+use Rattle.bundle_merge_names.proofs.ModuleLemmas.{OfExternal, external-takable, externals-from, externals-to}
 use Rattle.bundle_merge_names.proofs.LackLemmas.{refuses-like, some-refused}
 use Rattle.bundle_merge_names.proofs.ScopeLemmas.{handed-on}
 use Rattle.bundle_merge_names.proofs.SomeLemmas.{IsOfSome, some-first, some-next}
-use Rattle.bundle_merge_names.proofs.TakenLemmas.{adds-like}
+use Rattle.bundle_merge_names.proofs.LabelLemmas.{adds-like}
 use Rattle.bundle_merge_names.proofs.given.give_externals.Goals as goal
 
 pub loop-external-init : goal.loop-external-init
@@ -29,7 +29,7 @@ returns-clause-given c = λ p list handed modules.
     let are = c.externals-external-items.ensures p list handed in
     adds-like p list (IsOfSome OfExternal found) (IsOfExternals p list) c.args.names.now c.loop-external.names
     (externals-to p modules list found are) (externals-from p modules list found are)
-    (subst (λ l. AddsNames p list (IsOfSome OfExternal l) c.args.names.now c.loop-external.names)
+    (subst (λ l. GivesNames p list (IsOfSome OfExternal l) c.args.names.now c.loop-external.names)
     (take-whole found c.loop-external.external-index c.loop-external-test.false)
     (c.loop-external.invariant p list handed modules))
 

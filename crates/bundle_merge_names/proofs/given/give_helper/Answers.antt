@@ -3,13 +3,12 @@ use Rattle.std.proofs.Common.{◌≡◌, ◌⊎◌, inl, inr, refl, sym, subst, 
 use Rattle.bundle_rules.specs.Meaning as m
 use Rattle.bundle_rules.specs.Program.{Program}
 use Rattle.bundle_merge_names.specs.declared.names.Label.TheVariants as n
-use Rattle.bundle_merge_names.specs.declared.names.Names.{Names}
-use Rattle.bundle_merge_names.specs.Added.{AddsNames, IsOfHelper, its_name, its_parameter, its_variable}
-use Rattle.bundle_merge_whole.specs.made.Given.{Holder, NameOf, HelperParameter, HelperVariable}
-use Rattle.bundle_merge_names.proofs.AddLemmas.{adds-one, adds-on}
+use Rattle.bundle_merge_names.specs.declared.names.BundleNames.{BundleNames}
+use Rattle.bundle_merge_names.specs.Added.{GivesNames, IsOfHelper, its_name, its_parameter, its_variable, RefusesLabels}
+use Rattle.bundle_merge_theory.specs.made.Given.{Holder, NameOf, HelperParameter, HelperVariable}
+use Rattle.bundle_merge_names.proofs.LabelLemmas.{adds-one, adds-on}
 use Rattle.bundle_merge_names.specs.declared.error.MergeError.{MergeError}
 use Rattle.bundle_merge_names.specs.declared.names.Label.{Label}
-use Rattle.bundle_merge_names.specs.Added.{RefusesLabels}
 use Rattle.bundle_merge_names.specs.Held.{RefusesName}
 use Rattle.bundle_merge_names.specs.Named.{holder_of}
 use Rattle.bundle_merge_names.proofs.LackLemmas.{refuses-like, refuses-one, refuses-past}
@@ -28,10 +27,10 @@ first : (holder : Holder) → FirstTwo holder → IsOfHelper holder
 first holder (inl is) = subst IsOfHelper (sym is) its_name
 first holder (inr is) = subst IsOfHelper (sym is) its_parameter
 
-all-three : (p : Program) (list : List ℕ) (a b c d : Names) → AddsNames p list (λ h. h ≡ NameOf m.Helper) a b → AddsNames p list (λ h. h ≡ HelperParameter) b c → AddsNames p list (λ h. h ≡ HelperVariable) c d → AddsNames p list IsOfHelper a d
+all-three : (p : Program) (list : List ℕ) (a b c d : BundleNames) → GivesNames p list (λ h. h ≡ NameOf m.Helper) a b → GivesNames p list (λ h. h ≡ HelperParameter) b c → GivesNames p list (λ h. h ≡ HelperVariable) c d → GivesNames p list IsOfHelper a d
 all-three p list a b c d one two three = adds-on p list FirstTwo (λ h. h ≡ HelperVariable) IsOfHelper a c d split first (λ h is. subst IsOfHelper (sym is) its_variable) (adds-on p list (λ h. h ≡ NameOf m.Helper) (λ h. h ≡ HelperParameter) FirstTwo a b c (λ h is. is) (λ h is. inl is) (λ h is. inr is) one two) three
 
-one-refused : (label : Label) (old : Names) (refusal : MergeError) → IsOfHelper (holder_of label) → RefusesName label old refusal → RefusesLabels IsOfHelper old refusal
+one-refused : (label : Label) (old : BundleNames) (refusal : MergeError) → IsOfHelper (holder_of label) → RefusesName label old refusal → RefusesLabels IsOfHelper old refusal
 one-refused label old refusal its refuses = refuses-like (λ holder. holder ≡ holder_of label) IsOfHelper old refusal (λ holder is. subst IsOfHelper (sym is) its) (refuses-one label old refusal refuses)
 
 pub returns-clause-given : goal.returns-clause-given

@@ -3,9 +3,8 @@ use Rattle.std.proofs.Common.{rules, ◌≡◌, true, false, sym, ◌∙◌}
 use Rattle.std.proofs.lemmas.Bool.{true≢false}
 use Rattle.std.proofs.lemmas.Result.{IfErr-weaker}
 use Rattle.bundle_merge_names.specs.Added.{IsOfHelper, IsOfHelpers}
-use Rattle.bundle_merge_names.proofs.AddLemmas.{adds-none, on-ok}
+use Rattle.bundle_merge_names.proofs.LabelLemmas.{adds-none, on-ok, adds-like}
 use Rattle.bundle_merge_names.proofs.LackLemmas.{refuses-like}
-use Rattle.bundle_merge_names.proofs.TakenLemmas.{adds-like}
 use Rattle.bundle_merge_names.proofs.given.give_helpers.Goals as goal
 
 pub returns-then-not-has_common_js-clause-given : goal.returns-then-not-has_common_js-clause-given

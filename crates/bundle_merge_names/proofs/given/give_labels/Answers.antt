@@ -1,11 +1,10 @@
 -- Externals, the helper and the modules get their names in turn.
 use Rattle.std.proofs.lemmas.Result.{IfErr-weaker}
-use Rattle.bundle_merge_whole.specs.made.Given.{stands_written}
+use Rattle.bundle_merge_theory.specs.made.Given.{stands_written}
 use Rattle.bundle_merge_names.specs.Added.{IsOfExternals, IsOfHelpers, IsOfLabels, IsOfModules}
 use Rattle.bundle_merge_names.specs.Named.{IsGiven}
-use Rattle.bundle_merge_names.proofs.AddLemmas.{on-ok}
-use Rattle.bundle_merge_names.proofs.DueLemmas.{adds-all, external-given, helpers-given, modules-given}
-use Rattle.bundle_merge_names.proofs.LackLemmas.{refuses-after, refuses-like}
+use Rattle.bundle_merge_names.proofs.LabelLemmas.{on-ok}
+use Rattle.bundle_merge_names.proofs.LackLemmas.{adds-all, external-given, helpers-given, modules-given, refuses-after, refuses-like}
 use Rattle.bundle_merge_names.proofs.ScopeLemmas.{handed-on}
 use Rattle.bundle_merge_names.proofs.given.give_labels.Goals as goal
 

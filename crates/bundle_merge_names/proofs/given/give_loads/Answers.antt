@@ -2,20 +2,20 @@
 use Rattle.std.proofs.Common.{◌+◌, length, refl, subst, arith}
 use Rattle.std.proofs.lemmas.Option.{slice_get_read}
 use Rattle.bundle_scope_denote.proofs.LoopLemmas.{take-whole}
-use Rattle.bundle_merge_names.specs.Added.{AddsNames, IsOfLoads}
-use Rattle.bundle_merge_names.proofs.GivenLemmas.{OfLoaded, loaded-takable, loads-from, loads-to}
+use Rattle.bundle_merge_names.specs.Added.{GivesNames, IsOfLoads}
+use Rattle.bundle_merge_names.proofs.ModuleLemmas.{OfLoaded, loaded-takable, loads-from, loads-to}
 use Rattle.bundle_merge_names.proofs.LackLemmas.{refuses-like, some-refused}
 use Rattle.bundle_merge_names.proofs.ScopeLemmas.{handed-on}
 use Rattle.bundle_merge_names.proofs.SomeLemmas.{IsOfSome, some-first, some-next}
-use Rattle.bundle_merge_names.proofs.TakenLemmas.{adds-like}
+use Rattle.bundle_merge_names.proofs.LabelLemmas.{adds-like}
 use Rattle.bundle_merge_names.proofs.given.give_loads.Goals as goal
 
 pub loop-loaded-init : goal.loop-loaded-init
-loop-loaded-init c = λ p list handed modules reached. some-first p list (OfLoaded c.args.module) _ c.args.names.now refl
+loop-loaded-init c = λ p list handed modules reached. some-first p list (OfLoaded c.args.which) _ c.args.names.now refl
 
 pub loop-loaded-preserved : goal.loop-loaded-preserved
 loop-loaded-preserved c = λ p list handed modules reached.
-    let k = c.args.module in
+    let k = c.args.which in
     let loads = c.loads-loaded-items.result.now in
     let i = c.loop-loaded.loaded-index in
     let loaded = c.loaded-item.result in
@@ -26,18 +26,18 @@ loop-loaded-preserved c = λ p list handed modules reached.
 
 pub returns-clause-given : goal.returns-clause-given
 returns-clause-given c = λ p list handed modules reached.
-    let k = c.args.module in
+    let k = c.args.which in
     let loads = c.loads-loaded-items.result.now in
     let are = c.loads-loaded-items.ensures p list handed reached in
     adds-like p list (IsOfSome (OfLoaded k) loads) (IsOfLoads p k) c.args.names.now c.loop-loaded.names
     (loads-to p modules k loads are) (loads-from p modules k loads are)
-    (subst (λ l. AddsNames p list (IsOfSome (OfLoaded k) l) c.args.names.now c.loop-loaded.names)
+    (subst (λ l. GivesNames p list (IsOfSome (OfLoaded k) l) c.args.names.now c.loop-loaded.names)
     (take-whole loads c.loop-loaded.loaded-index c.loop-loaded-test.false)
     (c.loop-loaded.invariant p list handed modules reached))
 
 pub returns-in_err-give_loaded-clause-refused : goal.returns-in_err-give_loaded-clause-refused
 returns-in_err-give_loaded-clause-refused c = handed-on _ _ _ c.from_residual.ensures.1 (λ p list handed modules reached.
-    let k = c.args.module in
+    let k = c.args.which in
     let loads = c.loads-loaded-items.result.now in
     let i = c.loop-loaded.loaded-index in
     let loaded = c.loaded-item.result in

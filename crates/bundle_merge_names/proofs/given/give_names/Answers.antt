@@ -1,7 +1,7 @@
 -- First the scopes get contexts, and then labels their names.
 use Rattle.std.proofs.lemmas.Result.{IfErr-weaker}
 use Rattle.bundle_merge_names.specs.Refused.{for_scopes}
-use Rattle.bundle_merge_names.proofs.AddLemmas.{on-ok}
+use Rattle.bundle_merge_names.proofs.LabelLemmas.{on-ok}
 use Rattle.bundle_merge_names.proofs.NamesLemmas.{names-given}
 use Rattle.bundle_merge_names.proofs.LackLemmas.{names-few, names-refused}
 use Rattle.bundle_merge_names.proofs.ScopeLemmas.{handed-on}

@@ -4,7 +4,7 @@ use Rattle.std.proofs.Common.{map}
 use Rattle.bundle_merge_names.specs.Added.{IsNamedOf, IsTakenOf, IsWholeOf}
 use Rattle.bundle_merge_names.proofs.LackLemmas.{refuses-after, refuses-like}
 use Rattle.bundle_merge_names.proofs.ScopeLemmas.{handed-on}
-use Rattle.bundle_merge_names.proofs.TakenLemmas.{adds-taken, named-taken, whole-taken}
+use Rattle.bundle_merge_names.proofs.LabelLemmas.{adds-taken, named-taken, whole-taken}
 use Rattle.bundle_merge_names.proofs.given.give_taken.Goals as goal
 
 pub returns-clause-given : goal.returns-clause-given

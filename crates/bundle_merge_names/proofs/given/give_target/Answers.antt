@@ -1,7 +1,7 @@
 -- The target gets the name that its modules call it by.
 use Rattle.std.proofs.lemmas.Result.{IfErr-weaker}
 use Rattle.bundle_merge_names.specs.declared.names.Label.TheVariants as n
-use Rattle.bundle_merge_names.proofs.AddLemmas.{adds-one, on-ok}
+use Rattle.bundle_merge_names.proofs.LabelLemmas.{adds-one, on-ok}
 use Rattle.bundle_merge_names.proofs.LackLemmas.{refuses-one}
 use Rattle.bundle_merge_names.proofs.given.give_target.Goals as goal
 

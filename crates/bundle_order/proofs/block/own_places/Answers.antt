@@ -1,8 +1,8 @@
 use Rattle.std.proofs.Common.{◌≡◌, Vec, Global, List, [], ◌∷◌, map, replicate, sym, ap, ◌∙◌}
 use Rattle.std.proofs.lemmas.List.{length-map}
-use Rattle.bundle_tree_piece.specs.declared.piece.Piece.{Piece}
-use Rattle.bundle_tree_piece.specs.Item.{Item, item_of}
-use Rattle.bundle_order.specs.declared.number.Place.{Place}
+use Rattle.bundle_syntax.specs.declared.piece.Piece.{Piece}
+use Rattle.bundle_syntax.specs.Item.{Item, item_of}
+use Rattle.bundle_order.specs.declared.number.ItemPlace.{ItemPlace}
 use Rattle.bundle_order.specs.Numbering.{at_of, owners_of}
 use Rattle.bundle_order.proofs.SortedLemmas.{IsOwnOrder-places, same-owner}
 use Rattle.bundle_order.proofs.block.own_places.Goals as goal
@@ -20,4 +20,4 @@ returns c =
     ∙ (ap (λ n. replicate n 0) (sym (length-map c.args.lists.now listed))
     ∙ same-owner lists)) in
     IsOwnOrder-places lists owners owned c.in_ok-order.order.items
-    (c.in_ok-order.ensures ∙ ap (λ (l : List Place). map at_of l) (c.deref-2.ensures.value ∙ c.in_ok-places.ensures))
+    (c.in_ok-order.ensures ∙ ap (λ (l : List ItemPlace). map at_of l) (c.deref-2.ensures.value ∙ c.in_ok-places.ensures))

@@ -1,10 +1,10 @@
 -- The order is good for what the items need, and so for the items.
 use Rattle.std.proofs.Common.{◌≡◌, ◌∙◌, ℕ, Vec, Global, List, length, map, ap, subst, arith}
-use Rattle.bundle_tree_piece.specs.declared.piece.Piece.{Piece}
-use Rattle.bundle_tree_piece.specs.Item.{Item, item_of}
+use Rattle.bundle_syntax.specs.declared.piece.Piece.{Piece}
+use Rattle.bundle_syntax.specs.Item.{Item, item_of}
 use Rattle.bundle_tree_listed.specs.Tree.{module_item_items}
 use Rattle.bundle_order_sort.specs.declared.SharedItem.{SharedItem}
-use Rattle.bundle_order_sort.specs.Items.{IsGoodOrder}
+use Rattle.bundle_order_sort.specs.Items.{IsGoodItemOrder}
 use Rattle.bundle_order.specs.Grouped.{IsGroup}
 use Rattle.bundle_order.proofs.SortedLemmas.{IsGoodOrder-items}
 use Rattle.bundle_order.proofs.block.sorted_numbers.Goals as goal
@@ -25,4 +25,4 @@ returns c = λ long together.
     let count : length owners ≡ length lists = omega (arith, long, ap length c.deref.ensures.value, c.in_ok-lists.ensures.len) in
     let group = subst (λ (l : List (List Item)). IsGroup c.in_ok-group.group l owners) same (c.in_ok-group.ensures count) in
     IsGoodOrder-items items owners needs bindings order (c.in_ok-found.ensures.found trees owners group) (c.in_ok-found.ensures.owned trees owners group) together
-    (subst (λ (l : List SharedItem). IsGoodOrder l bindings order) c.deref-2.ensures.value c.in_ok-order.ensures)
+    (subst (λ (l : List SharedItem). IsGoodItemOrder l bindings order) c.deref-2.ensures.value c.in_ok-order.ensures)

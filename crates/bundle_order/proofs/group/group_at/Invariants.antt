@@ -1,6 +1,6 @@
 -- The items at the places that were passed were added.
 use Rattle.std.proofs.Common.{map, take}
-use Rattle.bundle_tree_piece.specs.Item.{item_of}
+use Rattle.bundle_syntax.specs.Item.{item_of}
 use Rattle.bundle_order.specs.Grouped.{IsGroup}
 use Rattle.bundle_order.specs.Numbering.{numbered_at}
 use Rattle.bundle_order.proofs.group.group_at.Given as goal

@@ -1,6 +1,6 @@
 -- Each item passed was added, with the module that is told.
 use Rattle.std.proofs.Common.{◌≡◌, length, map, take}
-use Rattle.bundle_tree_piece.specs.Item.{item_of}
+use Rattle.bundle_syntax.specs.Item.{item_of}
 use Rattle.bundle_order.specs.Grouped.{IsGroup}
 use Rattle.bundle_order.proofs.group.group_of.Given as goal
 

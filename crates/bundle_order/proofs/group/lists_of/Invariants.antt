@@ -1,6 +1,6 @@
 -- Each item passed has its list.
 use Rattle.std.proofs.Common.{◌≡◌, length, map, take}
-use Rattle.bundle_tree_piece.specs.Item.{item_of}
+use Rattle.bundle_syntax.specs.Item.{item_of}
 use Rattle.bundle_tree_listed.specs.Tree.{module_item_items}
 use Rattle.bundle_order.proofs.group.lists_of.Given as goal
 

@@ -1,6 +1,6 @@
 -- The places of the chosen ones of the items that were passed were added.
 use Rattle.std.proofs.Common.{◌≡◌, ◌++◌, map, take}
-use Rattle.bundle_tree_piece.specs.Item.{item_of}
+use Rattle.bundle_syntax.specs.Item.{item_of}
 use Rattle.bundle_order.specs.Numbering.{chosen_places}
 use Rattle.bundle_order.proofs.number.add_places.Given as goal
 

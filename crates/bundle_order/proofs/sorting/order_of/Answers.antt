@@ -1,7 +1,7 @@
 -- The places are in the order in which the items are sorted.
 use Rattle.std.proofs.Common.{Vec, Global, List, length, map, ap, ◌∙◌, arith}
-use Rattle.bundle_tree_piece.specs.declared.piece.Piece.{Piece}
-use Rattle.bundle_tree_piece.specs.Item.{Item, item_of}
+use Rattle.bundle_syntax.specs.declared.piece.Piece.{Piece}
+use Rattle.bundle_syntax.specs.Item.{Item, item_of}
 use Rattle.bundle_order.proofs.sorting.order_of.Goals as goal
 
 abbrev listed : Vec Piece Global → List Item

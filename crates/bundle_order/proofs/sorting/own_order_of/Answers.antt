@@ -1,7 +1,7 @@
 use Rattle.std.proofs.Common.{Vec, Global, List, map, ap, ◌∙◌, subst}
 use Rattle.std.specs.Prelude.{IfOk}
-use Rattle.bundle_tree_piece.specs.declared.piece.Piece.{Piece}
-use Rattle.bundle_tree_piece.specs.Item.{Item, item_of}
+use Rattle.bundle_syntax.specs.declared.piece.Piece.{Piece}
+use Rattle.bundle_syntax.specs.Item.{Item, item_of}
 use Rattle.bundle_order.specs.Numbering.{IsOwnOrder}
 use Rattle.bundle_order.proofs.sorting.own_order_of.Goals as goal
 

@@ -2,7 +2,7 @@
 use Rattle.std.proofs.Common.{◌≡◌, Vec, Global, ℕ, List, length, map, sym, ap, ◌∙◌, subst}
 use Rattle.std.specs.List.{flat_map}
 use Rattle.bundle_tree_ast.specs.declared.module.ModuleItem.{ModuleItem}
-use Rattle.bundle_tree_piece.specs.Item.{Item}
+use Rattle.bundle_syntax.specs.Item.{Item}
 use Rattle.bundle_tree_listed.specs.Tree.{module_item_items}
 use Rattle.bundle_rules.specs.Sorting.{IsSorted}
 use Rattle.bundle_order.specs.Numbering.{IsSortedBy, owners_of}

@@ -8,6 +8,6 @@ returns c =
     let items = c.args.items.now in
     let one = c.index-items-item.result in
     let at = slice_get_read items (length items) c.args.item one refl (omega (arith, c.if-item-items.false)) c.index-items-item.is in (
-      λ h. record { item = one; at = at; bound = c.if-one.false; own = eqb-true one.module c.args.module h },
-      λ o. eq-eqb one.module c.args.module (ap (λ i. i.module) (same_Some one o.item (sym at ∙ o.at)) ∙ o.own),
+      λ h. record { item = one; at = at; bound = c.if-one.false; own = eqb-true one.which c.args.which h },
+      λ o. eq-eqb one.which c.args.which (ap (λ i. i.which) (same_Some one o.item (sym at ∙ o.at)) ∙ o.own),
     )

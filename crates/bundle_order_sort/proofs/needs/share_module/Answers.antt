@@ -11,6 +11,6 @@ returns c =
     let second = c.index-items-other.result in
     let at_one = slice_get_read items (length items) c.args.one first refl c.requires.one_in c.index-items-one.is in
     let at_other = slice_get_read items (length items) c.args.other second refl c.requires.other_in c.index-items-other.is in (
-      λ h. ShareModule-made items c.args.one c.args.other first second at_one at_other c.if-first.false c.if-second.false (eqb-true first.module second.module h),
-      λ s. eq-eqb first.module second.module (ShareModule-same items c.args.one c.args.other first second at_one at_other s),
+      λ h. ShareModule-made items c.args.one c.args.other first second at_one at_other c.if-first.false c.if-second.false (eqb-true first.which second.which h),
+      λ s. eq-eqb first.which second.which (ShareModule-same items c.args.one c.args.other first second at_one at_other s),
     )

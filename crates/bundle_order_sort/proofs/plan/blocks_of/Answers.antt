@@ -3,7 +3,7 @@ use Rattle.std.specs.List.{AllZip}
 use Rattle.std.proofs.lemmas.List.{get_or_read, length-map}
 use Rattle.bundle_order_graph.proofs.NodeLemmas.{seen-read}
 use Rattle.bundle_order_sort.specs.Places.{is_in_some}
-use Rattle.bundle_order_sort.specs.Merged.{ends_at, merged}
+use Rattle.bundle_order_sort.specs.Merged.{ends_list_at, merged}
 use Rattle.bundle_order_sort.specs.Plan.{IsBlock}
 use Rattle.bundle_order_sort.proofs.PlanLemmas.{at-alone, at-ends, at-goes, ends-within, merged-over, slice-one, zip-more, zip-same}
 use Rattle.bundle_order_sort.proofs.plan.blocks_of.Goals as goal
@@ -37,7 +37,7 @@ loop-at-preserved c =
             (subst (λ n. AllZip (IsBlock owners) (merged is_on (drop (at + 1) list) (drop n cs)) rest) w.next-is z);
       }
       | else-not-contains+then-ends_next+in_ok-block-2+in_ok-push-2 w ↦
-          let ended : ends_at here cs next ≡ true = subst (λ m. ends_at m cs next ≡ true) read (sym w.ends_next.ensures ∙ w.if-ends_next.true) in
+          let ended : ends_list_at here cs next ≡ true = subst (λ m. ends_list_at m cs next ≡ true) read (sym w.ends_next.ensures ∙ w.if-ends_next.true) in
           let less : next < length cs = ends-within is_on list cs at next within ended in
           let within_cycles : next < length cycles = omega (arith, less, length-map cycles modules_of) in
           let cycle : w.deref.result.now ≡ get_or cs next [] = w.deref.ensures.value ∙ seen-read modules_of cycles cycles next w.index-cycles-next.result refl within_cycles w.index-cycles-next.is in
@@ -52,7 +52,7 @@ loop-at-preserved c =
                 (subst (λ n. AllZip (IsBlock owners) (merged is_on (drop (at + 1) list) (drop n cs)) rest) w.next-is z);
           }
       | else-not-contains+else-ends_next w ↦
-          let passed : ends_at here cs next ≡ false = subst (λ m. ends_at m cs next ≡ false) read (sym w.ends_next.ensures ∙ w.if-ends_next.false) in
+          let passed : ends_list_at here cs next ≡ false = subst (λ m. ends_list_at m cs next ≡ false) read (sym w.ends_next.ensures ∙ w.if-ends_next.false) in
           record {
             within = omega (arith, w.next-is, c.loop-at.invariant.within);
             so_far = λ owners are rest z.

@@ -4,7 +4,7 @@ use Rattle.std.proofs.lemmas.List.{get_or-map, length-map, map-set}
 use Rattle.bundle_order_sort.specs.Items.{AddsNeeds, IsNeeded, IsOwn}
 use Rattle.bundle_order_sort.specs.Left.{KeepsLeft, is_left}
 use Rattle.bundle_order_sort.proofs.LeftLemmas.{KeepsLeft-same, KeepsLeft-one, adds-left, adds-nothing, own-unneeded}
-use Rattle.bundle_order_sort.proofs.RowLemmas.{Leads-within}
+use Rattle.bundle_order_graph.proofs.LeadLemmas.{Leads-within}
 use Rattle.bundle_order_sort.proofs.stack.add_left.Goals as goal
 
 pub returns-then-list-lists-clause-added : goal.returns-then-list-lists-clause-added

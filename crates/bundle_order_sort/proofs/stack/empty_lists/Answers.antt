@@ -1,6 +1,6 @@
 use Rattle.std.proofs.Common.{◌+◌, length, ap, ◌∙◌}
 use Rattle.std.proofs.lemmas.List.{length_push}
-use Rattle.bundle_order_sort.proofs.RowLemmas.{none-push}
+use Rattle.bundle_order_graph.proofs.LeadLemmas.{none-push}
 use Rattle.bundle_order_sort.proofs.stack.empty_lists.Goals as goal
 
 pub loop-preserved : goal.loop-preserved

@@ -1,6 +1,6 @@
 -- The name is that of the first declaration that is doubled.
 use Rattle.std.proofs.Common.{map, subst}
-use Rattle.bundle_tree_piece.specs.Item.{item_of}
+use Rattle.bundle_syntax.specs.Item.{item_of}
 use Rattle.bundle_rules.specs.Doubled.{first_doubled}
 use Rattle.bundle_scope_denote.specs.Kinds.{kind_as}
 use Rattle.bundle_scope.specs.Refusals.{IsDoubled, doubled}

@@ -1,6 +1,6 @@
 -- What is exported by a declaration or a default has no plain words.
 use Rattle.std.proofs.Common.{sym, subst}
-use Rattle.bundle_tree_piece.specs.Item as h
+use Rattle.bundle_syntax.specs.Item as h
 use Rattle.bundle_tree_listed.specs.Tree.{decl_items, default_decl_items, expr_items, module_decl_items}
 use Rattle.bundle_scope.specs.Named.{AreWordsClear}
 use Rattle.bundle_scope.proofs.WordsLemmas.{clear_inside, decl_clear, default_clear, expr_clear}

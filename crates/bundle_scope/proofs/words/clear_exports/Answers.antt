@@ -1,7 +1,7 @@
 -- One more is the same, the contexts of plain words aside, and has no others.
 use Rattle.std.proofs.Common.{◌≡◌, suc, ◌+◌, length, set, ap, ◌∙◌, subst, arith}
 use Rattle.std.proofs.lemmas.List.{length-set}
-use Rattle.bundle_tree_piece.specs.declared.piece.Role.TheVariants.{Reference}
+use Rattle.bundle_syntax.specs.declared.piece.Role.TheVariants.{Reference}
 use Rattle.bundle_tree_listed.specs.Tree.{export_specifier_items}
 use Rattle.bundle_scope.specs.Named.{words_aside}
 use Rattle.bundle_scope.proofs.WordsLemmas.{words_set, AreClearTo, clear_set, clear_all}

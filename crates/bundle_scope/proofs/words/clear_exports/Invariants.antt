@@ -1,7 +1,7 @@
 -- The lists so far are the same, the contexts of plain words aside, and those passed have no others.
 use Rattle.std.proofs.Common.{◌≡◌, length}
 use Rattle.std.specs.List.{flat_map}
-use Rattle.bundle_tree_piece.specs.declared.piece.Role.TheVariants.{Reference}
+use Rattle.bundle_syntax.specs.declared.piece.Role.TheVariants.{Reference}
 use Rattle.bundle_tree_listed.specs.Tree.{export_specifier_items}
 use Rattle.bundle_scope.specs.Named.{words_aside}
 use Rattle.bundle_scope.proofs.WordsLemmas.{AreClearTo}

@@ -1,6 +1,6 @@
 -- The table is that of the whole list.
 use Rattle.std.proofs.Common.{map, ap, subst}
-use Rattle.bundle_tree_piece.specs.Item.{item_of}
+use Rattle.bundle_syntax.specs.Item.{item_of}
 use Rattle.bundle_rules.specs.Scopes.{ModuleKind}
 use Rattle.bundle_rules.specs.Declarations.{Reading}
 use Rattle.bundle_scope_denote.specs.Kinds.{reading_as, kind_as}

@@ -1,6 +1,6 @@
 -- The walk that was searched is that of the whole list.
 use Rattle.std.proofs.Common.{map, ap}
-use Rattle.bundle_tree_piece.specs.Item.{item_of}
+use Rattle.bundle_syntax.specs.Item.{item_of}
 use Rattle.bundle_scope_denote.specs.Kinds.{reading_as, kind_as}
 use Rattle.bundle_scope_denote.proofs.StartLemmas.{whole-named, whole-seen}
 use Rattle.bundle_scope_denote.proofs.TableLemmas.{if_ok, whole-made}

@@ -1,6 +1,6 @@
 -- A name more leaves the walk whole.
 use Rattle.std.proofs.Common.{map, refl}
-use Rattle.bundle_tree_piece.specs.Item.{item_of}
+use Rattle.bundle_syntax.specs.Item.{item_of}
 use Rattle.bundle_scope_denote.specs.Kinds.{reading_as, kind_as}
 use Rattle.bundle_scope_denote.proofs.StartLemmas.{whole-keeps}
 use Rattle.bundle_scope_denote.proofs.denote.go_over_with_arguments.Goals as goal

@@ -1,20 +1,20 @@
 -- One walk over the whole list is searched, and its first doubled declaration is told.
 use Rattle.std.proofs.Common.{◌≡◌, map, ap, ◌∙◌, subst, List}
-use Rattle.bundle_tree_piece.specs.Item.{Item, item_of}
+use Rattle.bundle_syntax.specs.Item.{Item, item_of}
 use Rattle.bundle_rules.specs.Scopes.{ModuleKind}
 use Rattle.bundle_rules.specs.Declarations.{Reading, BySymbol}
 use Rattle.bundle_scope_denote.specs.declared.table.ModuleKind.{ModuleKind as Kind}
 use Rattle.bundle_scope_denote.specs.declared.table.Reading.TheVariants as r
-use Rattle.bundle_scope_denote.specs.declared.walk.Walk.{Walk}
+use Rattle.bundle_scope_denote.specs.declared.walk.ScopeWalk.{ScopeWalk}
 use Rattle.bundle_scope_denote.specs.Kinds.{reading_as, kind_as}
-use Rattle.bundle_scope_denote.specs.Steps.{IsWhole}
+use Rattle.bundle_scope_denote.specs.Steps.{IsWholeWalk}
 use Rattle.bundle_scope_denote.proofs.StartLemmas.{whole-named, whole-seen}
 use Rattle.bundle_scope_denote.proofs.TableLemmas.{whole-made}
 use Rattle.bundle_scope_denote.proofs.named.names_and_doubled.Goals as goal
 
 -- a walk by symbol that was begun for a kind is whole for that
-whole-begun : (walk begun : Walk) (kind : Kind) (items : List Item) → begun.reading ≡ r.BySymbol → begun.kind ≡ kind → IsWhole walk (reading_as begun.reading) (kind_as begun.kind) items → IsWhole walk BySymbol (kind_as kind) items
-whole-begun walk begun kind items by_symbol of_kind whole = subst (λ (k : ModuleKind). IsWhole walk BySymbol k items) (ap kind_as of_kind) (subst (λ (read : Reading). IsWhole walk read (kind_as begun.kind) items) (ap reading_as by_symbol) whole)
+whole-begun : (walk begun : ScopeWalk) (kind : Kind) (items : List Item) → begun.reading ≡ r.BySymbol → begun.kind ≡ kind → IsWholeWalk walk (reading_as begun.reading) (kind_as begun.kind) items → IsWholeWalk walk BySymbol (kind_as kind) items
+whole-begun walk begun kind items by_symbol of_kind whole = subst (λ (k : ModuleKind). IsWholeWalk walk BySymbol k items) (ap kind_as of_kind) (subst (λ (read : Reading). IsWholeWalk walk read (kind_as begun.kind) items) (ap reading_as by_symbol) whole)
 
 pub first_met-requires : goal.first_met-requires
 first_met-requires c = whole-named (reading_as c.new-walk.result.reading) (kind_as c.new-walk.result.kind) (map item_of c.args.pieces.now) c.go_over_with_arguments.new.walk c.in_ok-go_over_with_arguments.ensures.whole

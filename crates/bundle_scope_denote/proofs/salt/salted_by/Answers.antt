@@ -3,17 +3,17 @@ use Rattle.std.proofs.Common.{◌≡◌, ◌+◌, ◌<◌, ◌++◌, ◌∷◌, 
 use Rattle.std.proofs.lemmas.List.{map-append, take_all, take_more}
 use Rattle.std.proofs.lemmas.Grind.{flat_map-append}
 use Rattle.sha2.specs.Hashers.{Holds512}
-use Rattle.bundle_tree_piece.specs.Item.{item_of}
-use Rattle.bundle_tree_piece.specs.declared.piece.Piece.{Piece}
-use Rattle.bundle_scope_denote.specs.Salted.{message_of, salted, told}
+use Rattle.bundle_syntax.specs.Item.{item_of}
+use Rattle.bundle_syntax.specs.declared.piece.Piece.{Piece}
+use Rattle.bundle_scope_denote.specs.Salted.{message_of, salted, salt_bytes}
 use Rattle.bundle_scope_denote.proofs.salt.salted_by.Goals as goal
 
 -- the message of one element more
 message-more : (pieces : List Piece) (i : ℕ) (piece : Piece) → i < length pieces → piece ≡ get_or pieces i piece →
-    message_of (map item_of (take i pieces)) ++ told (item_of piece) ≡ message_of (map item_of (take (i + 1) pieces))
+    message_of (map item_of (take i pieces)) ++ salt_bytes (item_of piece) ≡ message_of (map item_of (take (i + 1) pieces))
 message-more pieces i piece within is =
-    ap (λ (its : List ℕ). message_of (map item_of (take i pieces)) ++ its) (sym (nothing-more (told (item_of piece))))
-    ∙ sym (flat_map-append told (map item_of (take i pieces)) (item_of piece ∷ []))
+    ap (λ (its : List ℕ). message_of (map item_of (take i pieces)) ++ its) (sym (nothing-more (salt_bytes (item_of piece))))
+    ∙ sym (flat_map-append salt_bytes (map item_of (take i pieces)) (item_of piece ∷ []))
     ∙ ap message_of (sym (map-append item_of (take i pieces) (piece ∷ [])))
     ∙ ap (λ p. message_of (map item_of (take i pieces ++ p ∷ []))) is
     ∙ ap (λ l. message_of (map item_of l)) (sym (take_more pieces i piece within))

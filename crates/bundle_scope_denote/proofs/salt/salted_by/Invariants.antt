@@ -1,7 +1,7 @@
 -- The symbols gone over are the message so far.
 use Rattle.std.proofs.Common.{map, take}
 use Rattle.sha2.specs.Hashers.{Holds512}
-use Rattle.bundle_tree_piece.specs.Item.{item_of}
+use Rattle.bundle_syntax.specs.Item.{item_of}
 use Rattle.bundle_scope_denote.specs.Salted.{message_of}
 use Rattle.bundle_scope_denote.proofs.salt.salted_by.Given as goal
 

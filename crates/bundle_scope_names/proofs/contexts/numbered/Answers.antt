@@ -1,5 +1,5 @@
 -- Each occurrence has its context, or no number is left.
-use Rattle.std.proofs.Common.{◌≡◌, ◌≤◌, ◌<◌, ◌+◌, ◌∙◌, ℕ, Option, Some, None, List, length, take, get_or, refl, ap, sym, subst, arith}
+use Rattle.std.proofs.Common.{◌≡◌, ◌≤◌, ◌<◌, ◌+◌, ◌∙◌, ℕ, Some, List, length, take, get_or, refl, ap, sym, subst, arith}
 use Rattle.std.specs.Prelude.{slice_get}
 use Rattle.std.specs.List.{AllZip}
 use Rattle.std.proofs.lemmas.Option.{slice_get-get_or}
@@ -7,7 +7,7 @@ use Rattle.bundle_scope_denote.specs.declared.table.Denoted.{Denoted}
 use Rattle.bundle_scope_denote.specs.declared.table.Denotations.{Denotations}
 use Rattle.bundle_scope_denote.proofs.LoopLemmas.{take-whole}
 use Rattle.bundle_scope_names.specs.Numbering.{HasContext, GivesContext, IsNumberedTo}
-use Rattle.bundle_scope_names.proofs.PassingLemmas.{passed-none, passed-one, lacks, is-within}
+use Rattle.bundle_scope_names.proofs.PassingLemmas.{passed-one, lacks, is-within}
 use Rattle.bundle_scope_names.proofs.contexts.numbered.Goals as goal
 
 -- the occurrence that is passed stands in the table

@@ -8,19 +8,18 @@ use Rattle.std.specs.declared.alloc.Global.{Global}
 use Rattle.std.specs.declared.string.String.{String}
 use Rattle.std.proofs.lemmas.List.{length-map}
 use Rattle.std.proofs.lemmas.Option.{slice_get-get_or, slice_get_within, unwrap_or-slice_get}
-use Rattle.bundle_tree_piece.specs.Item.{Item, item_of}
+use Rattle.bundle_syntax.specs.Item.{Item, item_of}
 use Rattle.bundle_rules.specs.Nodes.{Text}
 use Rattle.bundle_scope_denote.specs.declared.table.Binding.{Binding}
 use Rattle.bundle_scope_denote.specs.declared.table.Denoted.{Denoted}
 use Rattle.bundle_scope_denote.proofs.LoopLemmas.{take-whole}
 use Rattle.bundle_scope_names.specs.declared.names.Names.{Names}
 use Rattle.bundle_scope_names.specs.Called.{at}
-use Rattle.bundle_scope_names.specs.Turns.{Facts, Place, AreInTurn, facts_of, homes_of, symbols_from, symbol_of, home_of, is_before}
-use Rattle.bundle_scope_names.specs.Marks.{Symbol, is_called_in, number_in}
-use Rattle.bundle_scope_names.specs.Symbols.{HasNumber, HasNumbers}
-use Rattle.bundle_scope_names.proofs.GlobalLemmas.{declared-before}
-use Rattle.bundle_scope_names.proofs.SymbolLemmas.{first-declares}
-use Rattle.bundle_scope_names.proofs.NamedLemmas.{IsNamedTo, Renames, renames-none, named-first, named-next}
+use Rattle.bundle_scope_names.specs.Turns.{Facts, Place, AreInTurn, facts_of, homes_of, symbols_from, binding_symbol, home_number, is_before}
+use Rattle.bundle_scope_names.specs.Marks.{Symbol, is_called_in, symbol_number}
+use Rattle.bundle_scope_names.specs.Symbols.{HasSymbolNumber, HaveSymbolNumbers}
+use Rattle.bundle_scope_names.proofs.SymbolLemmas.{declared-before, first-declares}
+use Rattle.bundle_scope_names.proofs.HomesLemmas.{IsNamedTo, Renames, renames-none, named-first, named-next}
 use Rattle.bundle_scope_names.proofs.hygiene.hygienic_names.Goals as goal
 use Rattle.bundle_scope_names.proofs.hygiene.hygienic_names.Goals.{in-Some, in_default}
 
@@ -37,12 +36,12 @@ symbols-long names number (x ∷ rest) = ap suc (symbols-long names (number + 1)
 slice_get-unwrap_or : (texts : List Text) (i : ℕ) → i < length texts → slice_get texts i ≡ Some (unwrap_or (slice_get texts i) [])
 slice_get-unwrap_or texts i lt = slice_get-get_or texts i [] lt ∙ ap (λ t. Some t) (sym (unwrap_or-slice_get texts i []))
 
-numbers-same : (t1 t2 : List Text) (occurrences : List Denoted) (k1 k2 : List Symbol) (numbers : List (Option ℕ)) → t1 ≡ t2 → k1 ≡ k2 → HasNumbers t1 occurrences k1 numbers → HasNumbers t2 occurrences k2 numbers
-numbers-same t1 t2 occurrences k1 k2 numbers e_t e_k has = subst (λ k. HasNumbers t2 occurrences k numbers) e_k (subst (λ t. HasNumbers t occurrences k1 numbers) e_t has)
+numbers-same : (t1 t2 : List Text) (occurrences : List Denoted) (k1 k2 : List Symbol) (numbers : List (Option ℕ)) → t1 ≡ t2 → k1 ≡ k2 → HaveSymbolNumbers t1 occurrences k1 numbers → HaveSymbolNumbers t2 occurrences k2 numbers
+numbers-same t1 t2 occurrences k1 k2 numbers e_t e_k has = subst (λ k. HaveSymbolNumbers t2 occurrences k numbers) e_k (subst (λ t. HaveSymbolNumbers t occurrences k1 numbers) e_t has)
 
 -- the number of a symbol, as it is read
-number-read : (symbols read : List (Bor Text)) (numbers read_numbers : List (Option ℕ)) (keys : List Symbol) (binding : ℕ) (text : Text) (number : Option ℕ) → read ≡ symbols → read_numbers ≡ numbers → text ≡ unwrap_or (slice_get (map (λ (s : Bor Text). s.now) read) binding) [] → number ≡ at read_numbers binding → HasNumber (map (λ (s : Bor Text). s.now) symbols) keys numbers binding → number ≡ number_in keys text
-number-read symbols read numbers read_numbers keys binding text number e_read e_numbers is_text is_number has = is_number ∙ ap (λ l. at l binding) e_numbers ∙ has.is ∙ sym has.own ∙ ap (number_in keys) (sym (is_text ∙ ap (λ (l : List (Bor Text)). unwrap_or (slice_get (map (λ (s : Bor Text). s.now) l) binding) []) e_read))
+number-read : (symbols read : List (Bor Text)) (numbers read_numbers : List (Option ℕ)) (keys : List Symbol) (binding : ℕ) (text : Text) (number : Option ℕ) → read ≡ symbols → read_numbers ≡ numbers → text ≡ unwrap_or (slice_get (map (λ (s : Bor Text). s.now) read) binding) [] → number ≡ at read_numbers binding → HasSymbolNumber (map (λ (s : Bor Text). s.now) symbols) keys numbers binding → number ≡ symbol_number keys text
+number-read symbols read numbers read_numbers keys binding text number e_read e_numbers is_text is_number has = is_number ∙ ap (λ l. at l binding) e_numbers ∙ has.is ∙ sym has.own ∙ ap (symbol_number keys) (sym (is_text ∙ ap (λ (l : List (Bor Text)). unwrap_or (slice_get (map (λ (s : Bor Text). s.now) l) binding) []) e_read))
 
 pub loop-place-init : goal.loop-place-init
 loop-place-init c =
@@ -81,14 +80,14 @@ loop-place-preserved c =
     let is_home = known.in_turn.home n place is_at in
     let is_first = known.in_turn.first n place is_at in
     let lt : place.2 < length facts.homes = slice_get_within facts.homes place.2 place.0 is_home in
-    let e_home : home_of facts place.2 ≡ place.0 = ap (λ (o : Option ℕ). unwrap_or o 0) is_home in
+    let e_home : home_number facts place.2 ≡ place.0 = ap (λ (o : Option ℕ). unwrap_or o 0) is_home in
     let e_table = symbols-same c.args.keywords.now c.deref.result.now c.args.denotations.now.bindings.items c.in_ok-symbols.symbols.items c.in_ok-symbols.symbols.items c.deref.ensures.value refl c.in_ok-symbols.ensures in
     let e_symbols = symbols-same c.args.keywords.now c.deref.result.now c.args.denotations.now.bindings.items c.in_ok-symbols.symbols.items c.deref-in-loop-place.result.now c.deref.ensures.value c.deref-in-loop-place.ensures.value c.in_ok-symbols.ensures in
-    let e_symbol : symbol_of facts place.2 ≡ c.symbol_at.result.now = ap (λ (l : List Text). unwrap_or (slice_get l place.2) []) e_symbols ∙ sym c.symbol_at.ensures in
+    let e_symbol : binding_symbol facts place.2 ≡ c.symbol_at.result.now = ap (λ (l : List Text). unwrap_or (slice_get l place.2) []) e_symbols ∙ sym c.symbol_at.ensures in
     let within : place.2 < length facts.symbols = subst (λ n. place.2 < n) (symbols-long c.args.keywords.now 0 c.args.denotations.now.bindings.items) lt in
     let has = c.loop-place.invariant.1 place.2 (subst (λ (l : List Text). place.2 < length l) e_table within) (first-declares facts.occurrences place.2 place.1 is_first) in
-    let e_number : c.number_at.result ≡ number_in c.loop-place.hygiene.symbols.keys c.symbol_at.result.now = number-read c.in_ok-symbols.symbols.items c.deref-in-loop-place.result.now c.in_ok-before.field-0.numbers.items c.deref-in-loop-place-2.result.now c.loop-place.hygiene.symbols.keys place.2 c.symbol_at.result.now c.number_at.result c.deref-in-loop-place.ensures.value c.deref-in-loop-place-2.ensures.value c.symbol_at.ensures c.number_at.ensures has in
-    let before : is_before facts (symbol_of facts place.2) ≡ true = declared-before facts place.2 place.1 (symbol_of facts place.2) is_first (slice_get-unwrap_or facts.symbols place.2 within) in
+    let e_number : c.number_at.result ≡ symbol_number c.loop-place.hygiene.symbols.keys c.symbol_at.result.now = number-read c.in_ok-symbols.symbols.items c.deref-in-loop-place.result.now c.in_ok-before.field-0.numbers.items c.deref-in-loop-place-2.result.now c.loop-place.hygiene.symbols.keys place.2 c.symbol_at.result.now c.number_at.result c.deref-in-loop-place.ensures.value c.deref-in-loop-place-2.ensures.value c.symbol_at.ensures c.number_at.ensures has in
+    let before : is_before facts (binding_symbol facts place.2) ≡ true = declared-before facts place.2 place.1 (binding_symbol facts place.2) is_first (slice_get-unwrap_or facts.symbols place.2 within) in
     let settled = c.in_ok-text.ensures.text facts known.turns refl refl e_home e_symbol e_number before known.knows in (
       subst (λ k. IsNamedTo facts c.args.keywords.now c.deref-place-items.result.now k c.settle.new.self c.match-text.names) one
           (named-next facts c.args.keywords.now c.deref-place-items.result.now n place c.loop-place.hygiene c.settle.new.self c.loop-place.names c.match-text.names (option_map string_bytes c.in_ok-text.text) known is_at

@@ -1,15 +1,14 @@
 -- Each binding that is declared has its place.
 use Rattle.std.proofs.Common.{◌≡◌, ◌<◌, ◌+◌, ℕ, Option, Some, List, length, ap, sym, ◌∙◌, subst, arith}
-use Rattle.std.specs.Prelude.{slice_get, option_and_then}
+use Rattle.std.specs.Prelude.{slice_get, option_and_then, Vec}
 use Rattle.std.specs.Option.{option_map}
-use Rattle.std.specs.Prelude.{Vec}
 use Rattle.std.specs.declared.alloc.Global.{Global}
 use Rattle.std.proofs.lemmas.List.{length-map}
 use Rattle.std.proofs.lemmas.Option.{slice_get-get_or, slice_get-map}
 use Rattle.bundle_scope_denote.specs.declared.table.Binding.{Binding}
 use Rattle.bundle_scope_names.specs.Called.{at}
 use Rattle.bundle_scope_names.specs.Turns.{Place, homes_of, first_of}
-use Rattle.bundle_scope_names.proofs.PlaceLemmas.{ArePlaced, placed-next, placed-over, placed-sorted}
+use Rattle.bundle_scope_names.proofs.SymbolLemmas.{ArePlaced, placed-next, placed-over, placed-sorted}
 use Rattle.bundle_scope_names.proofs.hygiene.places_of.Goals as goal
 use Rattle.bundle_scope_names.proofs.hygiene.places_of.Goals.{in-Some+in_ok-push, in_default}
 

@@ -6,14 +6,13 @@ use Rattle.std.specs.List.{list_any}
 use Rattle.std.proofs.lemmas.Bool.{false≢true}
 use Rattle.std.proofs.lemmas.List.{length-map}
 use Rattle.std.proofs.lemmas.Option.{slice_get-get_or}
-use Rattle.bundle_tree_piece.specs.Item.{item_of}
+use Rattle.bundle_syntax.specs.Item.{item_of}
 use Rattle.bundle_rules.specs.Nodes.{Text}
 use Rattle.bundle_scope_denote.specs.declared.table.Denoted.{Denoted}
 use Rattle.bundle_scope_denote.proofs.LoopLemmas.{take-whole}
 use Rattle.bundle_scope_names.specs.Marks.{is_among, is_called_in}
-use Rattle.bundle_scope_names.specs.Symbols.{HasNumbers}
-use Rattle.bundle_scope_names.proofs.GlobalLemmas.{called-more}
-use Rattle.bundle_scope_names.proofs.SymbolLemmas.{numbers-more}
+use Rattle.bundle_scope_names.specs.Symbols.{HaveSymbolNumbers}
+use Rattle.bundle_scope_names.proofs.SymbolLemmas.{called-more, numbers-more}
 use Rattle.bundle_scope_names.proofs.hygiene.symbols_before.Goals as goal
 
 pub loop-occurrence-init : goal.loop-occurrence-init
@@ -28,7 +27,7 @@ loop-occurrence-preserved c =
     let texts : List Text = map (λ (s : Bor Text). s.now) c.args.symbols.now in (
       λ text. subst (λ n. is_among text c.add.new.self.symbols.keys ≡ list_any (is_called_in (map item_of c.args.pieces.now) texts text) (take n c.args.denotations.now.occurrences.items)) one (called-more (map item_of c.args.pieces.now) texts c.args.denotations.now.occurrences.items c.loop-occurrence.occurrence-index o c.loop-occurrence.before.symbols.keys c.add.new.self.symbols.keys is_at c.in_ok-add.ensures.symbols c.loop-occurrence.invariant.0 text),
       c.in_ok-add.ensures.count ∙ c.loop-occurrence.invariant.1,
-      subst (λ n. HasNumbers texts (take n c.args.denotations.now.occurrences.items) c.add.new.self.symbols.keys c.add.new.self.numbers.items) one (numbers-more (map item_of c.args.pieces.now) texts c.args.denotations.now.occurrences.items c.loop-occurrence.occurrence-index o c.loop-occurrence.before c.add.new.self is_at (c.loop-occurrence.invariant.1 ∙ sym (length-map c.args.symbols.now (λ (s : Bor Text). s.now))) c.in_ok-add.ensures c.loop-occurrence.invariant.2),
+      subst (λ n. HaveSymbolNumbers texts (take n c.args.denotations.now.occurrences.items) c.add.new.self.symbols.keys c.add.new.self.numbers.items) one (numbers-more (map item_of c.args.pieces.now) texts c.args.denotations.now.occurrences.items c.loop-occurrence.occurrence-index o c.loop-occurrence.before c.add.new.self is_at (c.loop-occurrence.invariant.1 ∙ sym (length-map c.args.symbols.now (λ (s : Bor Text). s.now))) c.in_ok-add.ensures c.loop-occurrence.invariant.2),
     )
 
 pub returns-clause-symbols : goal.returns-clause-symbols
@@ -41,4 +40,4 @@ pub returns-clause-numbers : goal.returns-clause-numbers
 returns-clause-numbers c =
     let same : c.deref-occurrence-items.result.now ≡ c.args.denotations.now.occurrences.items = c.deref-occurrence-items.ensures.value in
     let past : length c.args.denotations.now.occurrences.items ≤ c.loop-occurrence.occurrence-index = omega (arith, ap length same, c.loop-occurrence-test.false) in
-    subst (λ l. HasNumbers (map (λ (s : Bor Text). s.now) c.args.symbols.now) l c.loop-occurrence.before.symbols.keys c.loop-occurrence.before.numbers.items) (take-whole c.args.denotations.now.occurrences.items c.loop-occurrence.occurrence-index past) c.loop-occurrence.invariant.2
+    subst (λ l. HaveSymbolNumbers (map (λ (s : Bor Text). s.now) c.args.symbols.now) l c.loop-occurrence.before.symbols.keys c.loop-occurrence.before.numbers.items) (take-whole c.args.denotations.now.occurrences.items c.loop-occurrence.occurrence-index past) c.loop-occurrence.invariant.2

@@ -4,11 +4,11 @@ use Rattle.std.specs.Option.{option_map}
 use Rattle.std.proofs.lemmas.List.{length-map}
 use Rattle.std.specs.Prelude.{Vec}
 use Rattle.std.specs.declared.alloc.Global.{Global}
-use Rattle.bundle_tree_piece.specs.Item.{Item, item_of}
+use Rattle.bundle_syntax.specs.Item.{Item, item_of}
 use Rattle.bundle_rules.specs.Nodes.{Text}
 use Rattle.bundle_scope_names.specs.Called.{at}
-use Rattle.bundle_scope_names.specs.Fresh.{Answers, collides, ctxt_of}
-use Rattle.bundle_scope_names.proofs.FreshLemmas.{contexts-more, contexts-last, contexts-none}
+use Rattle.bundle_scope_names.specs.Fresh.{AnswersCollision, collides, ctxt_of}
+use Rattle.bundle_scope_names.proofs.HomesLemmas.{contexts-more, contexts-last, contexts-none}
 use Rattle.bundle_scope_names.proofs.keywords.contexts_of.Goals as goal
 
 both-ok : {T E : Type 0} (P Q R : T → Type 0) → ((x : T) → P x → Q x → R x) → (r : Result T E) → IfOk r P → IfOk r Q → IfOk r R
@@ -22,8 +22,8 @@ pub loop-number-preserved : goal.loop-number-preserved
 loop-number-preserved c =
     let items : List Item = map item_of c.args.pieces.now in
     let texts : List (Option Text) = map (option_map string_bytes) c.args.texts.now in
-    let answers : Answers (collides items (at texts c.loop-number.number) (ctxt_of c.args.bindings.now c.loop-number.number)) c.loop-number.taken c.context_for.new.self c.in_ok-context.context =
-    subst (λ (b : Bool). Answers b c.loop-number.taken c.context_for.new.self c.in_ok-context.context) (ap₂ (collides items) c.text_at.ensures c.ctxt_at.ensures) (c.in_ok-context.ensures items c.loop-number.invariant.knows) in
+    let answers : AnswersCollision (collides items (at texts c.loop-number.number) (ctxt_of c.args.bindings.now c.loop-number.number)) c.loop-number.taken c.context_for.new.self c.in_ok-context.context =
+    subst (λ (b : Bool). AnswersCollision b c.loop-number.taken c.context_for.new.self c.in_ok-context.context) (ap₂ (collides items) c.text_at.ensures c.ctxt_at.ensures) (c.in_ok-context.ensures items c.loop-number.invariant.knows) in
     contexts-more items c.args.bindings.now texts c.loop-number.number c.loop-number.contexts.items c.push.new.self.items c.in_ok-context.context c.loop-number.taken c.context_for.new.self c.in_ok-push.ensures.items answers c.loop-number.invariant
 
 pub returns : goal.returns

@@ -1,8 +1,8 @@
 -- The first bindings have their contexts.
 use Rattle.std.proofs.Common.{map, string_bytes}
 use Rattle.std.specs.Option.{option_map}
-use Rattle.bundle_tree_piece.specs.Item.{item_of}
-use Rattle.bundle_scope_names.proofs.FreshLemmas.{AreContextsTo}
+use Rattle.bundle_syntax.specs.Item.{item_of}
+use Rattle.bundle_scope_names.proofs.HomesLemmas.{AreContextsTo}
 use Rattle.bundle_scope_names.proofs.keywords.contexts_of.Given as goal
 
 abbrev pub invariant-loop-number : goal.invariant-loop-number

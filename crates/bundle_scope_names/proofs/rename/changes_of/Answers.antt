@@ -5,7 +5,7 @@ use Rattle.std.specs.Prelude.{Vec, slice_get}
 use Rattle.std.specs.declared.alloc.Global.{Global}
 use Rattle.std.proofs.lemmas.List.{length-map}
 use Rattle.std.proofs.lemmas.Option.{slice_get_read}
-use Rattle.bundle_tree_piece.specs.Item.{item_of}
+use Rattle.bundle_syntax.specs.Item.{item_of}
 use Rattle.bundle_scope_denote.specs.declared.table.Denoted.{Denoted}
 use Rattle.bundle_scope_denote.proofs.LoopLemmas.{take-whole}
 use Rattle.bundle_tree_places.specs.declared.change.Change as places
@@ -13,7 +13,7 @@ use Rattle.bundle_tree_places.specs.Changes.{change_of}
 use Rattle.bundle_tree_places.specs.Marks.{ident_of}
 use Rattle.bundle_scope_names.specs.Called.{name_changes}
 use Rattle.bundle_scope_names.specs.Changed.{change_next, idents_as}
-use Rattle.bundle_scope_names.proofs.CalledLemmas.{changes_to_here, idents-each, changes-more, changes-same}
+use Rattle.bundle_scope_names.proofs.HomesLemmas.{changes_to_here, idents-each, changes-more, changes-same}
 use Rattle.bundle_scope_names.proofs.rename.changes_of.Goals as goal
 use Rattle.bundle_scope_names.proofs.rename.changes_of.Goals.{in-Some+in_ok-add_change, in_default}
 

@@ -1,8 +1,8 @@
 -- The changes so far are those of the identifiers among the elements passed.
 use Rattle.std.proofs.Common.{◌≡◌, map}
-use Rattle.bundle_tree_piece.specs.Item.{item_of}
+use Rattle.bundle_syntax.specs.Item.{item_of}
 use Rattle.bundle_tree_places.specs.Changes.{change_of}
-use Rattle.bundle_scope_names.proofs.CalledLemmas.{changes_to_here}
+use Rattle.bundle_scope_names.proofs.HomesLemmas.{changes_to_here}
 use Rattle.bundle_scope_names.proofs.rename.changes_of.Given as goal
 
 abbrev pub invariant-loop-piece : goal.invariant-loop-piece

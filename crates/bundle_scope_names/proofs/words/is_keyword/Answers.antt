@@ -2,7 +2,7 @@
 use Rattle.std.proofs.Common.{◌≡◌, ◌==◌, false, length, arith, refl, List, ◌++◌, sym, ◌∙◌}
 use Rattle.bundle_rules.specs.Nodes.{Text}
 use Rattle.bundle_rules.specs.Keywords.{keywords, strict_words, older_words}
-use Rattle.bundle_scope_names.proofs.WordLemmas.{of-length, is_length, no-such-length, no-length}
+use Rattle.bundle_scope_names.proofs.HomesLemmas.{of-length, is_length, no-such-length, no-length}
 use Rattle.bundle_scope_names.proofs.words.is_keyword.Goals as goal
 
 abbrev all : List Text

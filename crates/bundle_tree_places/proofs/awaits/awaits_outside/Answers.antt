@@ -1,7 +1,7 @@
 -- The open nodes tell where a place stands.
 use Rattle.std.proofs.Common.{map, ◌∙◌}
 use Rattle.std.proofs.lemmas.Result.{IfOk-weaker}
-use Rattle.bundle_tree_piece.specs.Item.{item_of}
+use Rattle.bundle_syntax.specs.Item.{item_of}
 use Rattle.bundle_tree_places.proofs.AwaitsLemmas.{awaits_in-tree}
 use Rattle.bundle_tree_places.proofs.awaits.awaits_outside.Goals as goal
 

@@ -1,7 +1,7 @@
 -- The occurrences so far are those among the elements passed.
 use Rattle.std.proofs.Common.{◌≡◌, map, take}
 use Rattle.std.specs.List.{flat_map}
-use Rattle.bundle_tree_piece.specs.Item.{item_of}
+use Rattle.bundle_syntax.specs.Item.{item_of}
 use Rattle.bundle_tree_places.specs.Marks.{listed_as, listed_of}
 use Rattle.bundle_tree_places.proofs.mark.occurrences_of.Given as goal
 

@@ -1,6 +1,6 @@
 -- The first node is in the field, or it is passed.
 use Rattle.std.proofs.Common.{map, ap, sym, ◌∙◌, arith}
-use Rattle.bundle_tree_piece.specs.Item.{item_of}
+use Rattle.bundle_syntax.specs.Item.{item_of}
 use Rattle.bundle_tree_places.specs.Lengths.{begins_node}
 use Rattle.bundle_tree_places.proofs.PartLemmas.{first_from, first-here, first-moved, first-none}
 use Rattle.bundle_tree_places.proofs.parts.first_in.Goals as goal

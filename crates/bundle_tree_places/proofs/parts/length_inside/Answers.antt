@@ -1,7 +1,7 @@
 -- Each element is passed, up to that which ends the node.
 use Rattle.std.proofs.Common.{◌≡◌, ◌+◌, ◌-◌, zero, suc, Some, map, drop, ap, sym, ◌∙◌, arith}
-use Rattle.bundle_tree_piece.specs.declared.piece.Piece.{Piece}
-use Rattle.bundle_tree_piece.specs.Item.{item_of}
+use Rattle.bundle_syntax.specs.declared.piece.Piece.{Piece}
+use Rattle.bundle_syntax.specs.Item.{item_of}
 use Rattle.bundle_tree_places.specs.Lengths.{depth_past, length_of_first}
 use Rattle.bundle_tree_places.proofs.LengthLemmas.{close-ended, close-passed, length-ended, length-passed, read-at}
 use Rattle.bundle_tree_places.proofs.parts.length_inside.Goals as goal

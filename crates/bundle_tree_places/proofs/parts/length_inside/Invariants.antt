@@ -1,6 +1,6 @@
 -- So many elements were passed, and the rest of the node is ahead.
 use Rattle.std.proofs.Common.{◌≡◌, ◌+◌, ◌≤◌, suc, drop, map}
-use Rattle.bundle_tree_piece.specs.Item.{item_of}
+use Rattle.bundle_syntax.specs.Item.{item_of}
 use Rattle.bundle_tree_places.specs.Lengths.{length_of_first}
 use Rattle.bundle_tree_places.proofs.parts.length_inside.Given as goal
 

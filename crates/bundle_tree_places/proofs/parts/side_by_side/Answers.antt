@@ -1,6 +1,6 @@
 -- Each node is found in turn.
 use Rattle.std.proofs.Common.{map, ap, sym, ◌∙◌, rules, arith}
-use Rattle.bundle_tree_piece.specs.Item.{item_of}
+use Rattle.bundle_syntax.specs.Item.{item_of}
 use Rattle.bundle_tree_places.specs.Lengths.{begins_node}
 use Rattle.bundle_tree_places.proofs.PartLemmas.{parts-found, parts-all}
 use Rattle.bundle_tree_places.proofs.parts.side_by_side.Goals as goal

@@ -1,6 +1,6 @@
 -- The nodes that were found and those behind the place are all.
 use Rattle.std.proofs.Common.{◌≡◌, ◌≤◌, ◌-◌, ◌++◌, zero, length, map, drop}
-use Rattle.bundle_tree_piece.specs.Item.{item_of}
+use Rattle.bundle_syntax.specs.Item.{item_of}
 use Rattle.bundle_rules.specs.Nodes.{side_by_side}
 use Rattle.bundle_tree_places.specs.Parted.{part_items}
 use Rattle.bundle_tree_places.proofs.parts.side_by_side.Given as goal

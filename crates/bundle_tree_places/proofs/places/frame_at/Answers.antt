@@ -1,6 +1,6 @@
 -- The node is open in those around it.
 use Rattle.std.proofs.Common.{refl, ◌∙◌}
-use Rattle.bundle_tree_piece.specs.Item.{head_of}
+use Rattle.bundle_syntax.specs.Item.{head_of}
 use Rattle.bundle_tree_places.proofs.PlaceLemmas.{stated_in_field}
 use Rattle.bundle_tree_places.proofs.places.frame_at.Goals as goal
 

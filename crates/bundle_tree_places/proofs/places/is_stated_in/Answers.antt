@@ -1,6 +1,6 @@
 -- By the innermost open node, unless that is the module.
 use Rattle.std.proofs.Common.{not, sym, ap, ◌∙◌}
-use Rattle.bundle_tree_piece.specs.Item.{head_of}
+use Rattle.bundle_syntax.specs.Item.{head_of}
 use Rattle.bundle_tree_places.specs.declared.places.Frame.{Frame}
 use Rattle.bundle_tree_places.proofs.PlaceLemmas.{stated_deep, stated_item, stated_tree}
 use Rattle.bundle_tree_places.proofs.places.is_stated_in.Goals as goal

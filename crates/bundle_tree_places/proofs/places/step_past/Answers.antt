@@ -1,8 +1,8 @@
 -- A node that begins is the innermost one.
 use Rattle.std.proofs.Common.{List, reverse, sym, subst}
-use Rattle.bundle_tree_piece.specs.declared.piece.Piece.{Piece}
-use Rattle.bundle_tree_piece.specs.Item as h
-use Rattle.bundle_tree_piece.specs.Item.{head_of, item_of}
+use Rattle.bundle_syntax.specs.declared.piece.Piece.{Piece}
+use Rattle.bundle_syntax.specs.Item as h
+use Rattle.bundle_syntax.specs.Item.{head_of, item_of}
 use Rattle.bundle_rules.specs.Places.{path_past}
 use Rattle.bundle_tree_places.specs.Placed.{AreOpen}
 use Rattle.bundle_tree_places.specs.declared.places.Frame.{Frame}

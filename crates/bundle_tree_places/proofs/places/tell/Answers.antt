@@ -1,7 +1,7 @@
 -- An element in a field is told by that field; nothing is read at an end.
 use Rattle.std.proofs.Common.{List, map, sym, ap, ◌∙◌}
 use Rattle.std.proofs.lemmas.Option.{none-some}
-use Rattle.bundle_tree_piece.specs.Item.{item_of}
+use Rattle.bundle_syntax.specs.Item.{item_of}
 use Rattle.bundle_rules.specs.Places.{Around}
 use Rattle.bundle_rules.specs.Nodes.{node_at}
 use Rattle.bundle_rules.specs.Reads.{property_of}

@@ -3,13 +3,13 @@ use Rattle.std.proofs.Common.{◌≡◌, ℕ, ◌+◌, Option, Some, List, [], l
 use Rattle.std.specs.Option.{option_map}
 use Rattle.std.proofs.lemmas.Option.{slice_get-map, slice_get_read}
 use Rattle.std.proofs.lemmas.List.{length-map, length_push}
-use Rattle.bundle_tree_piece.specs.Item.{item_of}
+use Rattle.bundle_syntax.specs.Item.{item_of}
 use Rattle.bundle_rules.specs.Places.{Spot, spot_before}
 use Rattle.bundle_rules.proofs.PlacesLemmas.{spot_before-next}
 use Rattle.bundle_tree_places.specs.Placed.{AreOpen, IsTold, no_told}
 use Rattle.bundle_tree_places.specs.Seconds.{AreSeconds}
 use Rattle.bundle_tree_places.specs.declared.places.Frame.{Frame}
-use Rattle.bundle_tree_places.specs.declared.places.Told.{Told}
+use Rattle.bundle_tree_places.specs.declared.places.ReadAt.{ReadAt}
 use Rattle.bundle_tree_places.proofs.PlaceLemmas.{is_told, told_push}
 use Rattle.bundle_tree_places.proofs.places.told_places.Goals as goal
 
@@ -34,7 +34,7 @@ loop-place-preserved c =
     let here = is_told items n (item_of piece) c.tell.result at (c.tell.ensures.word spot.path seconds lent at) (λ field is. c.tell.ensures.stated spot.path field lent is) in
     record {
       long = ap length c.in_ok-push.ensures.items ∙ (length_push c.loop-place.told.items c.tell.result ∙ ap (λ k. k + 1) inv.long);
-      told = λ p l. subst (λ (told : List Told). IsTold items p (get_or told p no_told)) (sym c.in_ok-push.ensures.items) (told_push items c.loop-place.told.items n c.tell.result inv.long inv.told here p l);
+      told = λ p l. subst (λ (told : List ReadAt). IsTold items p (get_or told p no_told)) (sym c.in_ok-push.ensures.items) (told_push items c.loop-place.told.items n c.tell.result inv.long inv.told here p l);
       opens = subst (λ (s : Spot). AreOpen (reverse c.step_past.new.frames.items) s.path) (sym (spot_before-next items n (item_of piece) at)) (c.in_ok-step_past.ensures spot.place spot.path inv.opens);
     }
 

@@ -1,6 +1,6 @@
 -- The places that were passed are told, and the nodes that are open are known.
 use Rattle.std.proofs.Common.{◌≡◌, ℕ, ◌<◌, length, get_or, map, reverse}
-use Rattle.bundle_tree_piece.specs.Item.{item_of}
+use Rattle.bundle_syntax.specs.Item.{item_of}
 use Rattle.bundle_rules.specs.Places.{spot_before}
 use Rattle.bundle_tree_places.specs.Placed.{AreOpen, IsTold, no_told}
 use Rattle.bundle_tree_places.proofs.places.told_places.Given as goal

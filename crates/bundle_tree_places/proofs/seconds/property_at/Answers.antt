@@ -4,7 +4,7 @@ use Rattle.std.specs.Prelude.{if◌then◌else◌}
 use Rattle.std.specs.Option.{option_map}
 use Rattle.std.proofs.lemmas.Option.{slice_get-map, slice_get_read}
 use Rattle.std.proofs.lemmas.List.{length-map}
-use Rattle.bundle_tree_piece.specs.Item.{item_of}
+use Rattle.bundle_syntax.specs.Item.{item_of}
 use Rattle.bundle_tree_places.specs.Seconds.{is_member_item, word_at}
 use Rattle.bundle_tree_places.proofs.SecondLemmas.{property_is}
 use Rattle.bundle_tree_places.proofs.seconds.property_at.Goals as goal

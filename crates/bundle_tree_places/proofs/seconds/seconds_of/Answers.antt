@@ -3,7 +3,7 @@ use Rattle.std.proofs.Common.{◌≡◌, ℕ, ◌+◌, ◌-◌, ◌<◌, Option,
 use Rattle.std.specs.Option.{option_map}
 use Rattle.std.proofs.lemmas.Option.{slice_get-map, slice_get_read}
 use Rattle.std.proofs.lemmas.List.{length-map, length-set, drop_all}
-use Rattle.bundle_tree_piece.specs.Item.{Item, item_of}
+use Rattle.bundle_syntax.specs.Item.{Item, item_of}
 use Rattle.bundle_tree_places.specs.Seconds.{second_from}
 use Rattle.bundle_tree_places.proofs.SecondLemmas.{second_end, back_tops, back_each}
 use Rattle.bundle_tree_places.proofs.seconds.seconds_of.Goals as goal

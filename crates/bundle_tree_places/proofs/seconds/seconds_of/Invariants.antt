@@ -1,6 +1,6 @@
 -- The places from this one on are told, and the stack is that of what is behind.
 use Rattle.std.proofs.Common.{◌≡◌, ℕ, ◌<◌, ◌≤◌, None, length, get_or, map, drop}
-use Rattle.bundle_tree_piece.specs.Item.{item_of}
+use Rattle.bundle_syntax.specs.Item.{item_of}
 use Rattle.bundle_tree_places.specs.Seconds.{AreTops, second_from, second_of}
 use Rattle.bundle_tree_places.proofs.seconds.seconds_of.Given as goal
 

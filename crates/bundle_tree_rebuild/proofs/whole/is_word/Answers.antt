@@ -1,6 +1,6 @@
 -- A word, or another property.
 use Rattle.std.proofs.Common.{◌∙◌, ap, Some, ◌++◌, ◌∷◌}
-use Rattle.bundle_tree_piece.specs.Item.{Close}
+use Rattle.bundle_syntax.specs.Item.{Close}
 use Rattle.bundle_tree_listed.specs.Tree.{member_prop_items}
 use Rattle.bundle_tree_rebuild.specs.Becomes.{behind_word}
 use Rattle.bundle_tree_rebuild.proofs.Reading.{word_found, private_found, computed_found}

@@ -2,7 +2,7 @@
 use Rattle.std.proofs.Common.{refl, Some}
 use Rattle.bundle_tree_ast.specs.declared.decl.VarDeclarator as v_var_declarator
 use Rattle.bundle_tree_ast.specs.declared.pat.Pat as v_pat
-use Rattle.bundle_tree_piece.specs.declared.piece.Role.TheVariants.{Binding}
+use Rattle.bundle_syntax.specs.declared.piece.Role.TheVariants.{Binding}
 use Rattle.bundle_tree_rewrite.proofs.Stating.{constant_so, only_element}
 use Rattle.bundle_tree_rewrite.proofs.stated.constant.Goals as goal
 

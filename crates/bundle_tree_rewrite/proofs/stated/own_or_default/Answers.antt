@@ -1,6 +1,6 @@
 -- Its own name, if it has one.
 use Rattle.std.proofs.lemmas.Result.{IfOk-weaker}
-use Rattle.bundle_tree_piece.specs.declared.piece.Role.TheVariants.{Binding}
+use Rattle.bundle_syntax.specs.declared.piece.Role.TheVariants.{Binding}
 use Rattle.bundle_tree_rewrite.proofs.Stating.{own_name, default_name}
 use Rattle.bundle_tree_rewrite.proofs.stated.own_or_default.Goals as goal
 

@@ -1,8 +1,8 @@
 -- One more bundle stands for one more entry; where no entry is left, all have theirs. A refusal of one is of all.
 use Rattle.std.proofs.Common.{refl, inl, inr}
-use Rattle.bundler_call.proofs.Bundling.{made_all, made_more, number_here, refused_here}
-use Rattle.bundler_call.proofs.Finding.{handed_on}
-use Rattle.bundler_call.proofs.Numbered.{counted_less, none_left}
+use Rattle.bundler_call.proofs.Sources.{made_all, made_more, number_here, refused_here}
+use Rattle.bundler_call.proofs.Growing.{handed_on}
+use Rattle.bundler_call.proofs.Leading.{counted_less, none_left}
 use Rattle.bundler_call.proofs.bundler.bundles_of.Goals as goal
 
 pub loop-entry-preserved-in_ok-push : goal.loop-entry-preserved-in_ok-push

@@ -1,7 +1,7 @@
 -- One more bundle is finished; where none is left, all are.
 use Rattle.std.proofs.Common.{◌≡◌, rules, sym, ◌∙◌}
 use Rattle.std.proofs.lemmas.List.{nil_from_length}
-use Rattle.bundler_call.proofs.Bundling.{finished_all, finished_more, finished_none}
+use Rattle.bundler_call.proofs.Sources.{finished_all, finished_more, finished_none}
 use Rattle.bundler_call.proofs.bundler.finished_bundles.Goals as goal
 
 pub loop-bundle-init : goal.loop-bundle-init

@@ -1,5 +1,5 @@
 -- The bundles so far are finished of those that were passed.
-use Rattle.bundler_call.proofs.Bundling.{AreFinishedSoFar}
+use Rattle.bundler_call.proofs.Sources.{AreFinishedSoFar}
 use Rattle.bundler_call.proofs.bundler.finished_bundles.Given as goal
 
 abbrev pub invariant-loop-bundle : goal.invariant-loop-bundle

@@ -1,9 +1,7 @@
 -- An entry that has the name or the file of one before it is the first such.
 use Rattle.std.proofs.Common.{inl, inr, map, refl, sym}
 use Rattle.bundler_call.specs.Kept.{entry_of}
-use Rattle.bundler_call.proofs.Counting.{as_many_entries}
-use Rattle.bundler_call.proofs.Doubling.{apart_all}
-use Rattle.bundler_call.proofs.Stepping.{list_told, not_both, one_more}
+use Rattle.bundler_call.proofs.Leading.{as_many_entries, apart_all, list_told, not_both, one_more}
 use Rattle.bundler_call.proofs.bundler.refuse_doubled_entry.Goals as goal
 
 pub loop-name-preserved : goal.loop-name-preserved

@@ -2,7 +2,7 @@
 use Rattle.std.proofs.Common.{◌≡◌, map, take}
 use Rattle.bundle_tree_names.specs.FileName.{name_of}
 use Rattle.bundler_call.specs.Kept.{entry_of}
-use Rattle.bundler_call.proofs.Doubling.{AreApartBefore}
+use Rattle.bundler_call.proofs.Leading.{AreApartBefore}
 use Rattle.bundler_call.proofs.bundler.refuse_doubled_entry.Given as goal
 
 abbrev pub invariant-loop-name : goal.invariant-loop-name

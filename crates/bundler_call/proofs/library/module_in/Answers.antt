@@ -3,10 +3,10 @@ use Rattle.std.proofs.Common.{◌∙◌, ap, sym, Bor}
 use Rattle.std.specs.Option.{option_map}
 use Rattle.bundle_tree_names.specs.FileName.{name_of, name_eq}
 use Rattle.bundle_tree.specs.declared.load.ModuleData.{ModuleData}
-use Rattle.bundler_kept.specs.Kept.{trees_in}
-use Rattle.bundler_kept.proofs.Keeping.{option_map-step}
+use Rattle.bundler_call.specs.KeptFiles.{trees_in}
+use Rattle.bundler_call.proofs.Holding.{option_map-step}
 use Rattle.bundler_call.specs.Kept.{kept_as}
-use Rattle.bundler_call.proofs.Finding.{lookup-read}
+use Rattle.bundler_call.proofs.Growing.{lookup-read}
 use Rattle.bundler_call.proofs.library.module_in.Goals as goal
 
 pub returns : goal.returns

@@ -3,11 +3,10 @@ use Rattle.std.proofs.Common.{length, subst, sym}
 use Rattle.std.proofs.lemmas.Result.{IfErr-weaker, IfOk-weaker}
 use Rattle.bundle_rules.specs.Kept.{program_of}
 use Rattle.bundler_entry.specs.Asked.{AreAnswersBefore}
-use Rattle.bundler_entry.proofs.Bundled.{asked-answers}
+use Rattle.bundler_entry.proofs.StatementLemmas.{asked-answers}
 use Rattle.bundler_call.specs.Kept.{settings_of}
-use Rattle.bundler_call.proofs.Finding.{handed_on}
-use Rattle.bundler_call.proofs.Linking.{merged_right, refused_hook, refused_linking, refused_merging}
-use Rattle.bundler_call.proofs.Sources.{call_of}
+use Rattle.bundler_call.proofs.Growing.{handed_on}
+use Rattle.bundler_call.proofs.Sources.{merged_right, refused_hook, refused_linking, refused_merging, call_of}
 use Rattle.bundler_call.proofs.linked.module_on.Goals as goal
 
 pub returns-in_err-linked-clause-refused : goal.returns-in_err-linked-clause-refused

@@ -7,14 +7,11 @@ use Rattle.bundle_tree_names.specs.declared.error.Error.TheVariants.{OutOfMemory
 use Rattle.bundle_rules.specs.Faults.{fault_of}
 use Rattle.bundle_rules.specs.Judging as j
 use Rattle.bundle_rules.specs.Judging.{Asks, GoesOn, Stopped}
-use Rattle.bundler_call.specs.Judged.{asked_by, refused_by}
+use Rattle.bundler_call.specs.Judged.{parties_asked, refused_by}
 use Rattle.bundler_call.specs.Kept.{kept_of}
 use Rattle.bundler_call.specs.Loading.{files_on, ids_on}
-use Rattle.bundler_call.proofs.Growing.{advances_refl, advances_trans, remains_refl, remains_trans, still_kept}
-use Rattle.bundler_call.proofs.Judging.{as_before, ends_handed, goes_not_on}
-use Rattle.bundler_call.proofs.Leading.{all_lead_more, all_lead_none, texts_all, texts_more, texts_of}
-use Rattle.bundler_call.proofs.Loading.{begins_refl, begins_trans}
-use Rattle.bundler_call.proofs.Placing.{asks_end, asks_from_start, asks_next, asks_stop, requested_along, requested_first, requested_rest}
+use Rattle.bundler_call.proofs.Growing.{advances_refl, advances_trans, remains_refl, remains_trans, still_kept, as_before, ends_handed, goes_not_on, asks_end, asks_from_start, asks_next, asks_stop, requested_along, requested_first, requested_rest}
+use Rattle.bundler_call.proofs.Leading.{all_lead_more, all_lead_none, texts_all, texts_more, texts_of, begins_refl, begins_trans}
 use Rattle.bundler_call.proofs.load.ask_each.Goals as goal
 
 pub loop-specifier-init : goal.loop-specifier-init
@@ -24,7 +21,7 @@ loop-specifier-init g c =
       c.requires.met,
       begins_refl _,
       c.requires.loaded,
-      asks_from_start (asked_by g.L.Load.may_load g.L.Load.may_fail_load g.R.Resolve.may_resolve g.R.Resolve.may_fail_resolve c.args.library.now.loader c.args.library.now.resolver) (name_of c.args.file.now) (map string_bytes c.args.specifiers.items) (map string_bytes c.into_iter-specifier-iterator.result.rest.items) (kept_of c.args.library.now.kept) (files_on c.args.list.now) (ap (map string_bytes) same),
+      asks_from_start (parties_asked g.L.Load.may_load g.L.Load.may_fail_load g.R.Resolve.may_resolve g.R.Resolve.may_fail_resolve c.args.library.now.loader c.args.library.now.resolver) (name_of c.args.file.now) (map string_bytes c.args.specifiers.items) (map string_bytes c.into_iter-specifier-iterator.result.rest.items) (kept_of c.args.library.now.kept) (files_on c.args.list.now) (ap (map string_bytes) same),
       λ numbered. (numbered, all_lead_none (kept_of c.args.library.now.kept) (ids_on c.args.list.now) (name_of c.args.file.now) c.new-deps.result.items c.new-deps.ensures.items),
       sym (ap (map string_bytes) same) ∙ ap (λ l. texts_of l ++ map string_bytes c.into_iter-specifier-iterator.result.rest.items) (sym c.new-deps.ensures.items),
       refl,
@@ -43,14 +40,14 @@ pub returns-in_err-id-clause-judged : goal.returns-in_err-id-clause-judged
 returns-in_err-id-clause-judged g c =
     let outcome = refused_by (fault_of c.in_err-id.field-0.0) in
     ends_handed _ c.in_err-id.field-0.0 _ c.from_residual.ensures.1
-    (asks_stop (asked_by g.L.Load.may_load g.L.Load.may_fail_load g.R.Resolve.may_resolve g.R.Resolve.may_fail_resolve c.args.library.now.loader c.args.library.now.resolver) (name_of c.args.file.now) (map string_bytes c.args.specifiers.items) (map string_bytes c.loop-specifier.specifier-iterator.rest.items) (map string_bytes c.next.new.self.rest.items) (string_bytes c.in-Some.specifier) (kept_of c.args.library.now.kept) (kept_of c.loop-specifier.library.kept) (kept_of c.id_of.new.library.kept) (files_on c.args.list.now) (files_on c.loop-specifier.list) (files_on c.id_of.new.list) outcome (goes_not_on (fault_of c.in_err-id.field-0.0)) (ap (map string_bytes) c.in-Some.ensures.steps.0) c.loop-specifier.invariant.4
-    (as_before (λ l r. Asks (asked_by g.L.Load.may_load g.L.Load.may_fail_load g.R.Resolve.may_resolve g.R.Resolve.may_fail_resolve l r) (name_of c.args.file.now) (string_bytes c.in-Some.specifier ∷ []) (kept_of c.loop-specifier.library.kept) (files_on c.loop-specifier.list) outcome (kept_of c.id_of.new.library.kept) (files_on c.id_of.new.list)) _ _ _ _ c.loop-specifier.invariant.0.loader c.loop-specifier.invariant.0.resolver c.in_err-id.ensures.judged))
+    (asks_stop (parties_asked g.L.Load.may_load g.L.Load.may_fail_load g.R.Resolve.may_resolve g.R.Resolve.may_fail_resolve c.args.library.now.loader c.args.library.now.resolver) (name_of c.args.file.now) (map string_bytes c.args.specifiers.items) (map string_bytes c.loop-specifier.specifier-iterator.rest.items) (map string_bytes c.next.new.self.rest.items) (string_bytes c.in-Some.specifier) (kept_of c.args.library.now.kept) (kept_of c.loop-specifier.library.kept) (kept_of c.id_of.new.library.kept) (files_on c.args.list.now) (files_on c.loop-specifier.list) (files_on c.id_of.new.list) outcome (goes_not_on (fault_of c.in_err-id.field-0.0)) (ap (map string_bytes) c.in-Some.ensures.steps.0) c.loop-specifier.invariant.4
+    (as_before (λ l r. Asks (parties_asked g.L.Load.may_load g.L.Load.may_fail_load g.R.Resolve.may_resolve g.R.Resolve.may_fail_resolve l r) (name_of c.args.file.now) (string_bytes c.in-Some.specifier ∷ []) (kept_of c.loop-specifier.library.kept) (files_on c.loop-specifier.list) outcome (kept_of c.id_of.new.library.kept) (files_on c.id_of.new.list)) _ _ _ _ c.loop-specifier.invariant.0.loader c.loop-specifier.invariant.0.resolver c.in_err-id.ensures.judged))
 
 pub returns-in_err-push-clause-judged : goal.returns-in_err-push-clause-judged
 returns-in_err-push-clause-judged g c =
     ends_handed _ OutOfMemory _ c.from_residual-in_err-push.ensures.1
-    (asks_next (asked_by g.L.Load.may_load g.L.Load.may_fail_load g.R.Resolve.may_resolve g.R.Resolve.may_fail_resolve c.args.library.now.loader c.args.library.now.resolver) (name_of c.args.file.now) (map string_bytes c.args.specifiers.items) (map string_bytes c.loop-specifier.specifier-iterator.rest.items) (map string_bytes c.next.new.self.rest.items) (string_bytes c.in-Some.specifier) (kept_of c.args.library.now.kept) (kept_of c.loop-specifier.library.kept) (kept_of c.id_of.new.library.kept) (files_on c.args.list.now) (files_on c.loop-specifier.list) (files_on c.id_of.new.list) (ap (map string_bytes) c.in-Some.ensures.steps.0) c.loop-specifier.invariant.4
-    (as_before (λ l r. Asks (asked_by g.L.Load.may_load g.L.Load.may_fail_load g.R.Resolve.may_resolve g.R.Resolve.may_fail_resolve l r) (name_of c.args.file.now) (string_bytes c.in-Some.specifier ∷ []) (kept_of c.loop-specifier.library.kept) (files_on c.loop-specifier.list) GoesOn (kept_of c.id_of.new.library.kept) (files_on c.id_of.new.list)) _ _ _ _ c.loop-specifier.invariant.0.loader c.loop-specifier.invariant.0.resolver c.in_ok-id.ensures.judged)
+    (asks_next (parties_asked g.L.Load.may_load g.L.Load.may_fail_load g.R.Resolve.may_resolve g.R.Resolve.may_fail_resolve c.args.library.now.loader c.args.library.now.resolver) (name_of c.args.file.now) (map string_bytes c.args.specifiers.items) (map string_bytes c.loop-specifier.specifier-iterator.rest.items) (map string_bytes c.next.new.self.rest.items) (string_bytes c.in-Some.specifier) (kept_of c.args.library.now.kept) (kept_of c.loop-specifier.library.kept) (kept_of c.id_of.new.library.kept) (files_on c.args.list.now) (files_on c.loop-specifier.list) (files_on c.id_of.new.list) (ap (map string_bytes) c.in-Some.ensures.steps.0) c.loop-specifier.invariant.4
+    (as_before (λ l r. Asks (parties_asked g.L.Load.may_load g.L.Load.may_fail_load g.R.Resolve.may_resolve g.R.Resolve.may_fail_resolve l r) (name_of c.args.file.now) (string_bytes c.in-Some.specifier ∷ []) (kept_of c.loop-specifier.library.kept) (files_on c.loop-specifier.list) GoesOn (kept_of c.id_of.new.library.kept) (files_on c.id_of.new.list)) _ _ _ _ c.loop-specifier.invariant.0.loader c.loop-specifier.invariant.0.resolver c.in_ok-id.ensures.judged)
     Stopped (kept_of c.id_of.new.library.kept) (files_on c.id_of.new.list) j.Asks.stopped)
 
 pub id_of-requires-clause-numbered : goal.id_of-requires-clause-numbered
@@ -62,8 +59,8 @@ loop-specifier-preserved g c = (
   c.in_ok-id.ensures.met,
   begins_trans _ _ _ c.loop-specifier.invariant.2 c.in_ok-id.ensures.begins,
   still_kept _ _ c.in_ok-id.ensures.keeps.stays (name_of c.args.file.now) c.loop-specifier.invariant.3,
-  asks_next (asked_by g.L.Load.may_load g.L.Load.may_fail_load g.R.Resolve.may_resolve g.R.Resolve.may_fail_resolve c.args.library.now.loader c.args.library.now.resolver) (name_of c.args.file.now) (map string_bytes c.args.specifiers.items) (map string_bytes c.loop-specifier.specifier-iterator.rest.items) (map string_bytes c.next.new.self.rest.items) (string_bytes c.in-Some.specifier) (kept_of c.args.library.now.kept) (kept_of c.loop-specifier.library.kept) (kept_of c.id_of.new.library.kept) (files_on c.args.list.now) (files_on c.loop-specifier.list) (files_on c.id_of.new.list) (ap (map string_bytes) c.in-Some.ensures.steps.0) c.loop-specifier.invariant.4
-      (as_before (λ l r. Asks (asked_by g.L.Load.may_load g.L.Load.may_fail_load g.R.Resolve.may_resolve g.R.Resolve.may_fail_resolve l r) (name_of c.args.file.now) (string_bytes c.in-Some.specifier ∷ []) (kept_of c.loop-specifier.library.kept) (files_on c.loop-specifier.list) GoesOn (kept_of c.id_of.new.library.kept) (files_on c.id_of.new.list)) _ _ _ _ c.loop-specifier.invariant.0.loader c.loop-specifier.invariant.0.resolver c.in_ok-id.ensures.judged),
+  asks_next (parties_asked g.L.Load.may_load g.L.Load.may_fail_load g.R.Resolve.may_resolve g.R.Resolve.may_fail_resolve c.args.library.now.loader c.args.library.now.resolver) (name_of c.args.file.now) (map string_bytes c.args.specifiers.items) (map string_bytes c.loop-specifier.specifier-iterator.rest.items) (map string_bytes c.next.new.self.rest.items) (string_bytes c.in-Some.specifier) (kept_of c.args.library.now.kept) (kept_of c.loop-specifier.library.kept) (kept_of c.id_of.new.library.kept) (files_on c.args.list.now) (files_on c.loop-specifier.list) (files_on c.id_of.new.list) (ap (map string_bytes) c.in-Some.ensures.steps.0) c.loop-specifier.invariant.4
+      (as_before (λ l r. Asks (parties_asked g.L.Load.may_load g.L.Load.may_fail_load g.R.Resolve.may_resolve g.R.Resolve.may_fail_resolve l r) (name_of c.args.file.now) (string_bytes c.in-Some.specifier ∷ []) (kept_of c.loop-specifier.library.kept) (files_on c.loop-specifier.list) GoesOn (kept_of c.id_of.new.library.kept) (files_on c.id_of.new.list)) _ _ _ _ c.loop-specifier.invariant.0.loader c.loop-specifier.invariant.0.resolver c.in_ok-id.ensures.judged),
   λ numbered.
       let before = c.loop-specifier.invariant.5 numbered in
       let after = c.in_ok-id.ensures.numbered before.0 in (
@@ -95,7 +92,7 @@ returns-clause-grows g c = λ settings entries are. (c.loop-specifier.invariant.
 pub returns-clause-judged : goal.returns-clause-judged
 returns-clause-judged g c =
     let rest = c.loop-specifier.specifier-iterator.rest in
-    asks_end (asked_by g.L.Load.may_load g.L.Load.may_fail_load g.R.Resolve.may_resolve g.R.Resolve.may_fail_resolve c.args.library.now.loader c.args.library.now.resolver) (name_of c.args.file.now) (map string_bytes c.args.specifiers.items) (map string_bytes rest.items) (kept_of c.args.library.now.kept) (kept_of c.loop-specifier.library.kept) (files_on c.args.list.now) (files_on c.loop-specifier.list) (ap (map string_bytes) (nil_from_length rest.items (sym rest.ok.0 ∙ c.in-None.ensures.steps.0))) c.loop-specifier.invariant.4
+    asks_end (parties_asked g.L.Load.may_load g.L.Load.may_fail_load g.R.Resolve.may_resolve g.R.Resolve.may_fail_resolve c.args.library.now.loader c.args.library.now.resolver) (name_of c.args.file.now) (map string_bytes c.args.specifiers.items) (map string_bytes rest.items) (kept_of c.args.library.now.kept) (kept_of c.loop-specifier.library.kept) (files_on c.args.list.now) (files_on c.loop-specifier.list) (ap (map string_bytes) (nil_from_length rest.items (sym rest.ok.0 ∙ c.in-None.ensures.steps.0))) c.loop-specifier.invariant.4
 
 pub returns-clause-asked : goal.returns-clause-asked
 returns-clause-asked g c =

@@ -6,7 +6,7 @@ use Rattle.std.proofs.lemmas.Result.{IfErr-weaker, IfOk-weaker}
 use Rattle.bundle_tree_names.specs.FileName.{name_of}
 use Rattle.bundle_tree.specs.declared.load.ModuleData.{ModuleData}
 use Rattle.bundler_call.specs.Kept.{kept_as}
-use Rattle.bundler_call.proofs.Reading.{found_as, read_faulty, read_faultless}
+use Rattle.bundler_call.proofs.Sources.{found_as, read_faulty, read_faultless}
 use Rattle.bundler_call.proofs.load.kept_requests.Goals as goal
 
 pub returns-clause-faulty : goal.returns-clause-faulty

@@ -7,14 +7,13 @@ use Rattle.bundle_rules.specs.Faults.{fault_of}
 use Rattle.bundle_rules.specs.Judging as j
 use Rattle.bundle_rules.specs.Judging.{LoadsAll, Outcome, Stopped}
 use Rattle.bundle_rules.specs.Kept.{Kept}
-use Rattle.bundler_call.specs.Judged.{asked_by, refused_by}
+use Rattle.bundler_call.specs.Judged.{parties_asked, refused_by}
 use Rattle.bundler_call.specs.Kept.{kept_of, settings_of}
 use Rattle.bundler_call.specs.Loading.{files_on}
-use Rattle.bundler_call.proofs.Handing.{proceeds_refl, proceeds_stays, proceeds_trans, stands_refl, stands_trans}
-use Rattle.bundler_call.proofs.Leading.{asked_all, asked_first, asked_next, once_listed}
-use Rattle.bundler_call.proofs.Loading.{all_kept, all_kept_within, begins_refl, begins_trans, kept_before_more, none_before, short_enough}
-use Rattle.bundler_call.proofs.Judging.{ends_handed}
-use Rattle.bundler_call.proofs.Working.{begins_longer, loads_end, loads_next, loads_over, none_before_all, none_past, within_grown}
+use Rattle.bundler_call.proofs.Sources.{proceeds_refl, proceeds_stays, proceeds_trans, stands_refl, stands_trans}
+use Rattle.bundler_call.proofs.Leading.{asked_all, asked_first, asked_next, once_listed, all_kept, all_kept_within, begins_refl, begins_trans, kept_before_more, none_before, short_enough}
+use Rattle.bundler_call.proofs.Growing.{ends_handed}
+use Rattle.bundler_call.proofs.Programs.{begins_longer, loads_end, loads_next, loads_over, none_before_all, none_past, within_grown}
 use Rattle.bundler_call.proofs.load.load_all.Goals as goal
 
 pub loop-place-init : goal.loop-place-init
@@ -37,8 +36,8 @@ loop-place-preserved g c = (
   kept_before_more (kept_of c.loop-place.library.kept) (kept_of c.work_on.new.library.kept) (proceeds_stays _ _ (settings_of c.args.config.now) [] _ _ _ _ _ (c.in_ok-work_on.ensures.grows [])) (files_on c.loop-place.list) (files_on c.work_on.new.list) c.in_ok-work_on.ensures.begins
       c.loop-place.place (name_of c.in-Some.file) (sym c.in_ok-file.ensures.file ∙ ap (option_map name_of) c.in-Some.is) c.in_ok-work_on.ensures.loaded c.loop-place.invariant.2,
   within_grown (files_on c.loop-place.list) (files_on c.work_on.new.list) c.loop-place.place (name_of c.in-Some.file) (sym c.in_ok-file.ensures.file ∙ ap (option_map name_of) c.in-Some.is) (begins_longer (files_on c.loop-place.list) (files_on c.work_on.new.list) c.in_ok-work_on.ensures.begins),
-  loads_next (asked_by g.L.Load.may_load g.L.Load.may_fail_load g.R.Resolve.may_resolve g.R.Resolve.may_fail_resolve c.args.library.now.loader c.args.library.now.resolver) (settings_of c.args.config.now) (files_on c.args.list) (files_on c.loop-place.list) (files_on c.work_on.new.list) c.loop-place.place (kept_of c.args.library.now.kept) (kept_of c.loop-place.library.kept) (kept_of c.work_on.new.library.kept) c.loop-place.invariant.4
-      (subst (λ r. (outcome : Outcome) (last : Kept) → LoadsAll (asked_by g.L.Load.may_load g.L.Load.may_fail_load g.R.Resolve.may_resolve g.R.Resolve.may_fail_resolve c.args.library.now.loader r) (settings_of c.args.config.now) (files_on c.work_on.new.list) (suc c.loop-place.place) (kept_of c.work_on.new.library.kept) outcome last → LoadsAll (asked_by g.L.Load.may_load g.L.Load.may_fail_load g.R.Resolve.may_resolve g.R.Resolve.may_fail_resolve c.args.library.now.loader r) (settings_of c.args.config.now) (files_on c.loop-place.list) c.loop-place.place (kept_of c.loop-place.library.kept) outcome last) (c.loop-place.invariant.0 []).resolver (c.in_ok-work_on.ensures.judged c.args.library.now.loader c.loop-place.place c.loop-place.invariant.8 (sym c.in_ok-file.ensures.file ∙ ap (option_map name_of) c.in-Some.is))),
+  loads_next (parties_asked g.L.Load.may_load g.L.Load.may_fail_load g.R.Resolve.may_resolve g.R.Resolve.may_fail_resolve c.args.library.now.loader c.args.library.now.resolver) (settings_of c.args.config.now) (files_on c.args.list) (files_on c.loop-place.list) (files_on c.work_on.new.list) c.loop-place.place (kept_of c.args.library.now.kept) (kept_of c.loop-place.library.kept) (kept_of c.work_on.new.library.kept) c.loop-place.invariant.4
+      (subst (λ r. (outcome : Outcome) (last : Kept) → LoadsAll (parties_asked g.L.Load.may_load g.L.Load.may_fail_load g.R.Resolve.may_resolve g.R.Resolve.may_fail_resolve c.args.library.now.loader r) (settings_of c.args.config.now) (files_on c.work_on.new.list) (suc c.loop-place.place) (kept_of c.work_on.new.library.kept) outcome last → LoadsAll (parties_asked g.L.Load.may_load g.L.Load.may_fail_load g.R.Resolve.may_resolve g.R.Resolve.may_fail_resolve c.args.library.now.loader r) (settings_of c.args.config.now) (files_on c.loop-place.list) c.loop-place.place (kept_of c.loop-place.library.kept) outcome last) (c.loop-place.invariant.0 []).resolver (c.in_ok-work_on.ensures.judged c.args.library.now.loader c.loop-place.place c.loop-place.invariant.8 (sym c.in_ok-file.ensures.file ∙ ap (option_map name_of) c.in-Some.is))),
   begins_trans _ _ _ c.loop-place.invariant.5 c.in_ok-work_on.ensures.begins,
   λ numbered. c.in_ok-work_on.ensures.numbered (c.loop-place.invariant.6 numbered),
   λ none numbered.
@@ -63,15 +62,15 @@ pub returns-in_err-work_on-clause-judged : goal.returns-in_err-work_on-clause-ju
 returns-in_err-work_on-clause-judged g c =
     let outcome = refused_by (fault_of c.in_err-work_on.field-0.0) in
     ends_handed _ c.in_err-work_on.field-0.0 _ c.from_residual-in_err-work_on.ensures.1
-    (c.loop-place.invariant.4 outcome (kept_of c.work_on.new.library.kept) (subst (λ r. LoadsAll (asked_by g.L.Load.may_load g.L.Load.may_fail_load g.R.Resolve.may_resolve g.R.Resolve.may_fail_resolve c.args.library.now.loader r) (settings_of c.args.config.now) (files_on c.loop-place.list) c.loop-place.place (kept_of c.loop-place.library.kept) outcome (kept_of c.work_on.new.library.kept)) (c.loop-place.invariant.0 []).resolver (c.in_err-work_on.ensures.judged c.args.library.now.loader c.loop-place.place c.loop-place.invariant.8 (sym c.in_ok-file.ensures.file ∙ ap (option_map name_of) c.in-Some.is))))
+    (c.loop-place.invariant.4 outcome (kept_of c.work_on.new.library.kept) (subst (λ r. LoadsAll (parties_asked g.L.Load.may_load g.L.Load.may_fail_load g.R.Resolve.may_resolve g.R.Resolve.may_fail_resolve c.args.library.now.loader r) (settings_of c.args.config.now) (files_on c.loop-place.list) c.loop-place.place (kept_of c.loop-place.library.kept) outcome (kept_of c.work_on.new.library.kept)) (c.loop-place.invariant.0 []).resolver (c.in_err-work_on.ensures.judged c.args.library.now.loader c.loop-place.place c.loop-place.invariant.8 (sym c.in_ok-file.ensures.file ∙ ap (option_map name_of) c.in-Some.is))))
 
 pub returns-in_default-clause-judged : goal.returns-in_default-clause-judged
 returns-in_default-clause-judged g c =
-    loads_over (asked_by g.L.Load.may_load g.L.Load.may_fail_load g.R.Resolve.may_resolve g.R.Resolve.may_fail_resolve c.args.library.now.loader c.args.library.now.resolver) (settings_of c.args.config.now) (files_on c.args.list) (files_on c.loop-place.list) c.loop-place.place (kept_of c.args.library.now.kept) (kept_of c.loop-place.library.kept) (sym c.in_ok-file.ensures.file ∙ ap (option_map name_of) c.in_default.is) c.loop-place.invariant.3 c.loop-place.invariant.4
+    loads_over (parties_asked g.L.Load.may_load g.L.Load.may_fail_load g.R.Resolve.may_resolve g.R.Resolve.may_fail_resolve c.args.library.now.loader c.args.library.now.resolver) (settings_of c.args.config.now) (files_on c.args.list) (files_on c.loop-place.list) c.loop-place.place (kept_of c.args.library.now.kept) (kept_of c.loop-place.library.kept) (sym c.in_ok-file.ensures.file ∙ ap (option_map name_of) c.in_default.is) c.loop-place.invariant.3 c.loop-place.invariant.4
 
 pub returns-clause-judged : goal.returns-clause-judged
 returns-clause-judged g c =
-    loads_end (asked_by g.L.Load.may_load g.L.Load.may_fail_load g.R.Resolve.may_resolve g.R.Resolve.may_fail_resolve c.args.library.now.loader c.args.library.now.resolver) (settings_of c.args.config.now) (files_on c.args.list) (files_on c.loop-place.list) c.loop-place.place (kept_of c.args.library.now.kept) (kept_of c.loop-place.library.kept) (short_enough c.loop-place.list.files c.len-count.result c.loop-place.place c.len-count.ensures.len c.len-count.ensures.small c.loop-place-test.false) c.loop-place.invariant.3 c.loop-place.invariant.4
+    loads_end (parties_asked g.L.Load.may_load g.L.Load.may_fail_load g.R.Resolve.may_resolve g.R.Resolve.may_fail_resolve c.args.library.now.loader c.args.library.now.resolver) (settings_of c.args.config.now) (files_on c.args.list) (files_on c.loop-place.list) c.loop-place.place (kept_of c.args.library.now.kept) (kept_of c.loop-place.library.kept) (short_enough c.loop-place.list.files c.len-count.result c.loop-place.place c.len-count.ensures.len c.len-count.ensures.small c.loop-place-test.false) c.loop-place.invariant.3 c.loop-place.invariant.4
 
 pub returns-in_default-clause-begins : goal.returns-in_default-clause-begins
 returns-in_default-clause-begins g c = c.loop-place.invariant.5

@@ -6,8 +6,7 @@ use Rattle.bundle_tree_names.specs.FileName.{name_of}
 use Rattle.bundle_rules.specs.Kept.{program_of}
 use Rattle.bundle_tree.specs.declared.load.ModuleData.{ModuleData}
 use Rattle.bundler_call.specs.Kept.{kept_as, kept_of, settings_of}
-use Rattle.bundler_call.proofs.Reading.{is_there, read_sound}
-use Rattle.bundler_call.proofs.Sources.{module_numbered}
+use Rattle.bundler_call.proofs.Sources.{is_there, read_sound, module_numbered}
 use Rattle.bundler_call.proofs.program.kept_source.Goals as goal
 
 pub unwrap-loaded-requires : goal.unwrap-loaded-requires

@@ -1,8 +1,8 @@
 -- The first of the files that are left is kept, and so are the others; each is read.
 use Rattle.std.proofs.Common.{◌+◌, ◌<◌, ◌≤◌, ◌∙◌, ap, drop, get_or, length, refl, subst}
-use Rattle.bundler_entry.proofs.CountLemmas.{none-left, one-left}
+use Rattle.bundler_entry.proofs.LinkedLemmas.{none-left, one-left}
 use Rattle.bundler_call.specs.Kept.{kept_of, settings_of}
-use Rattle.bundler_call.proofs.Loading.{first_kept, rest_kept}
+use Rattle.bundler_call.proofs.Leading.{first_kept, rest_kept}
 use Rattle.bundler_call.proofs.Sources.{are_sources, first_numbered, read_all, read_more, read_none}
 use Rattle.bundler_call.proofs.program.sources_on.Goals as goal
 

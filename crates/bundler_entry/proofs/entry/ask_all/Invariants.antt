@@ -5,8 +5,8 @@ use Rattle.bundler_entry.specs.Asked.{AreAnswersBefore}
 use Rattle.bundler_entry.specs.Linked.{IsCallOf, IsLinkedEntry}
 use Rattle.bundler_entry.proofs.entry.ask_all.Given as goal
 
-abbrev pub invariant-loop-module : goal.invariant-loop-module
-invariant-loop-module g l =
+abbrev pub invariant-loop-which : goal.invariant-loop-which
+invariant-loop-which g l =
     (p : Program) (entry : ℕ) → IsCallOf p entry l.call → IsLinkedEntry p l.call l.linked →
     AreAnswersBefore ((goal.Hook-dyn g l.hook.now).may_give l.hook.now.1) p
-    l.linked.reached.list.items l.«module» l.answers.items
+    l.linked.reached.list.items l.which l.answers.items

@@ -3,7 +3,7 @@ use Rattle.std.proofs.Common.{None, ◌∙◌}
 use Rattle.std.proofs.lemmas.Option.{none-some}
 use Rattle.std.proofs.lemmas.Result.{IfErr-weaker, IfOk-weaker, err_from_is_err_and}
 use Rattle.bundler_entry.specs.Made.{answers_in, for_memory}
-use Rattle.bundler_entry.proofs.AnsweredLemmas.{are-read}
+use Rattle.bundler_entry.proofs.StatementLemmas.{are-read}
 use Rattle.bundler_entry.proofs.entry.module_of.Goals as goal
 
 pub returns-in_err-metas-clause-refused : goal.returns-in_err-metas-clause-refused

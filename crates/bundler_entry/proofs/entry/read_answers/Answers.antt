@@ -1,7 +1,7 @@
 -- Each answer that is read is put at the place of its module.
 use Rattle.std.proofs.Common.{sym, subst, ◌+◌, arith}
-use Rattle.bundler_entry.specs.Hook.{IsRead}
-use Rattle.bundler_entry.proofs.ReadLemmas.{AreReadSoFar, at-index, read-all, read-more}
+use Rattle.bundler_entry.specs.Hook.{IsMetaRead}
+use Rattle.bundler_entry.proofs.MergedLemmas.{AreReadSoFar, at-index, read-all, read-more}
 use Rattle.bundler_entry.proofs.entry.read_answers.Goals as goal
 
 pub loop-answer-preserved : goal.loop-answer-preserved
@@ -11,7 +11,7 @@ loop-answer-preserved c =
     (read-more c.args.answers.now c.args.count i c.loop-answer.metas.items c.answer-item.result
     c.in_ok-read.read
     (at-index c.args.answers.now i c.answer-item.result c.loop-answer-test.true c.answer-item.is)
-    (subst (λ given. IsRead given c.in_ok-read.read) c.as_slice.ensures.value c.in_ok-read.ensures)
+    (subst (λ given. IsMetaRead given c.in_ok-read.read) c.as_slice.ensures.value c.in_ok-read.ensures)
     c.loop-answer.invariant)
 
 pub returns-clause-all : goal.returns-clause-all

@@ -1,5 +1,5 @@
 -- The answers before this one were read.
-use Rattle.bundler_entry.proofs.ReadLemmas.{AreReadSoFar}
+use Rattle.bundler_entry.proofs.MergedLemmas.{AreReadSoFar}
 use Rattle.bundler_entry.proofs.entry.read_answers.Given as goal
 
 abbrev pub invariant-loop-answer : goal.invariant-loop-answer

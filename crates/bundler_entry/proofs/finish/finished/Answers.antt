@@ -5,7 +5,7 @@ use Rattle.std.proofs.lemmas.Bool.{false≢true}
 use Rattle.std.proofs.lemmas.Result.{IfOk-weaker}
 use Rattle.bundle_tree_listed.specs.Tree.{module_items}
 use Rattle.bundle_rules.specs.Forms.{wrapped}
-use Rattle.bundle_link.specs.Programs.{is_call}
+use Rattle.bundle_link.specs.Programs.{is_one_call}
 use Rattle.bundler_entry.proofs.finish.finished.Goals as goal
 
 -- what is so of a value under a condition
@@ -19,7 +19,7 @@ returns-in-Es c = record {
   at_once = c.in_ok-give_names.ensures.at_once;
   in_turn = c.in_ok-give_names.ensures.in_turn;
   as_module = λ so. refl;
-  as_call = λ so. absurd (false≢true (sym (ap is_call c.in-Es.is) ∙ so));
+  as_call = λ so. absurd (false≢true (sym (ap is_one_call c.in-Es.is) ∙ so));
 }
 
 pub returns-in-Iife : goal.returns-in-Iife
@@ -29,7 +29,7 @@ returns-in-Iife c =
       named = c.give_names.new.merged;
       at_once = c.in_ok-give_names.ensures.at_once;
       in_turn = c.in_ok-give_names.ensures.in_turn;
-      as_module = λ so. absurd (false≢true (sym so ∙ ap is_call c.in-Iife.is));
+      as_module = λ so. absurd (false≢true (sym so ∙ ap is_one_call c.in-Iife.is));
       as_call = λ so can. is can;
     })
     (under c.called.result (λ made. module_items 0 made ≡ wrapped (module_items 0 c.give_names.new.merged)) c.called.ensures)

@@ -4,7 +4,7 @@ use Rattle.std.proofs.lemmas.Result.{IfOk-weaker}
 use Rattle.bundle_tree_rename.proofs.Changing.{edited}
 use Rattle.bundle_tree_rename.specs.Naming.{naming_of}
 use Rattle.bundler_entry.specs.Finished.{is_renaming, naming_for}
-use Rattle.bundler_entry.proofs.NamingLemmas.{named_so, editable_so, in_turn_so}
+use Rattle.bundler_entry.proofs.MergedLemmas.{named_so, editable_so, in_turn_so}
 use Rattle.bundler_entry.proofs.finish.give_names.Goals as goal
 
 pub returns-clause-at_once : goal.returns-clause-at_once

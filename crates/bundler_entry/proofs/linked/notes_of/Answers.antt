@@ -2,7 +2,7 @@
 use Rattle.std.proofs.Common.{◌≡◌, ◌<◌, ℕ, List, Some, get_or, length, refl, ap, sym, ◌∙◌, subst, arith}
 use Rattle.std.specs.Prelude.{slice_get}
 use Rattle.std.proofs.lemmas.Option.{same_Some, slice_get-get_or, slice_get_read, slice_get_within}
-use Rattle.bundler_entry.proofs.PartLemmas.{notes_more}
+use Rattle.bundler_entry.proofs.SourceLemmas.{notes_more}
 use Rattle.bundler_entry.proofs.linked.notes_of.Goals as goal
 use Rattle.bundler_entry.proofs.linked.notes_of.Goals.{in-Some+in_ok-push, in_default}
 

@@ -6,7 +6,7 @@ use Rattle.bundler_entry.proofs.linked.part_at.Goals as goal
 
 pub returns-clause-part : goal.returns-clause-part
 returns-clause-part c =
-    let m = c.args.module in
+    let m = c.args.which in
     let places = c.deref.result.now in
     let place = c.in_ok-get.field-0.now in
     let source = c.in_ok-source.source.now in

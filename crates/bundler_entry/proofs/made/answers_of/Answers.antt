@@ -2,7 +2,7 @@
 use Rattle.std.proofs.Common.{◌++◌, ◌∷◌, [], ap, sym, ◌∙◌, subst, take}
 use Rattle.std.specs.List.{AllZip}
 use Rattle.std.proofs.lemmas.List.{take_more}
-use Rattle.bundle_link_targets.proofs.FillLemmas.{zip-push}
+use Rattle.bundle_link_targets.proofs.CallPlaceLemmas.{zip-push}
 use Rattle.bundler_entry.specs.Parts.{IsAnswerRead}
 use Rattle.bundler_entry.proofs.made.answers_of.Goals as goal
 

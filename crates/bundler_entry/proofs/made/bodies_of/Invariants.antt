@@ -4,7 +4,7 @@ use Rattle.bundle_link_targets.specs.Linked.{IsLinkingOf}
 use Rattle.bundler_entry.specs.Parts.{AreBodies}
 use Rattle.bundler_entry.proofs.made.bodies_of.Given as goal
 
-abbrev pub invariant-loop-module : goal.invariant-loop-module
-invariant-loop-module l =
+abbrev pub invariant-loop-which : goal.invariant-loop-which
+invariant-loop-which l =
     (q : Program) → IsLinkingOf q l.linking →
-    AreBodies q l.call l.reached l.module l.bodies.items
+    AreBodies q l.call l.reached l.which l.bodies.items

@@ -52,7 +52,7 @@ returns-clause-refused c = λ p entry w l are read answered.
     let bodies = c.args.bodies.now in
     let metas = c.args.metas.now in
     let error = c.in-Err-ContextsUsedUp in
-    all-refused p entry call w linked l bodies are metas read _ error.field-0 error.module
+    all-refused p entry call w linked l bodies are metas read _ error.field-0 error.which
     c.in_ok-contexts_refusal-in-Err-ContextsUsedUp.field-0 error.field-0-is error.ensures.refused
     (subst (λ list. AreEntryParts call linked.reached bodies (length linked.reached.leads.items) list)
     (sym c.as_slice.ensures.value)

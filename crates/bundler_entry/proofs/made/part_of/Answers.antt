@@ -6,7 +6,7 @@ use Rattle.bundle_tree_names.specs.declared.file_name.FileName.{FileName}
 use Rattle.bundle_scope_denote.specs.declared.table.Denotations.{Denotations}
 use Rattle.bundle_rules.specs.Kept.{local_context}
 use Rattle.bundler_entry.specs.Parts.{names_by}
-use Rattle.bundler_entry.proofs.MadeLemmas.{file-there}
+use Rattle.bundler_entry.proofs.PartsLemmas.{file-there}
 use Rattle.bundler_entry.proofs.made.part_of.Goals as goal
 
 pub returns-clause-part : goal.returns-clause-part
@@ -14,7 +14,7 @@ returns-clause-part c = λ leads.
     let call = c.args.call.now in
     let reached = c.args.reached.now in
     let source = c.in_ok-source.source.now in
-    let k = c.args.module in
+    let k = c.args.which in
     let file : FileName × ℕ = (c.in_ok-id.field-0-0.now, c.in_ok-id.id.now) in
     record {
       source = source;

@@ -4,7 +4,7 @@ use Rattle.std.specs.Prelude.{IfSome, IsSome, slice_get}
 use Rattle.std.proofs.lemmas.Bool.{false≢true}
 use Rattle.std.proofs.lemmas.Option.{slice_get_read, slice_get_within}
 use Rattle.bundler_entry.specs.Parts.{IsEntryPart}
-use Rattle.bundler_entry.proofs.MadeLemmas.{parts-more}
+use Rattle.bundler_entry.proofs.PartsLemmas.{parts-more}
 use Rattle.bundler_entry.proofs.made.parts_of.Goals as goal
 use Rattle.bundler_entry.proofs.made.parts_of.Goals.{in-Some+in_ok-push, in_default}
 

@@ -8,7 +8,7 @@ use Rattle.bundle_tree_listed.specs.Tree.{key_value_prop_items}
 use Rattle.bundle_rules.specs.Faults.{fault_of}
 use Rattle.bundler_entry.specs.Hook.{IsRightAnswer, IsFaultOfAnswer}
 use Rattle.bundler_entry.specs.Unlinked.{error_of}
-use Rattle.bundler_entry.proofs.HookLemmas.{of_failure, of_answer}
+use Rattle.bundler_entry.proofs.AskedLemmas.{of_failure, of_answer}
 use Rattle.bundler_entry.proofs.meta.ask.Goals as goal
 
 pub returns-in_err-properties-clause-refused : goal.returns-in_err-properties-clause-refused

@@ -1,7 +1,7 @@
 -- The occurrences tell it.
 use Rattle.std.proofs.Common.{◌∙◌, codes, map}
-use Rattle.bundle_tree_piece.specs.Item.{item_of}
-use Rattle.bundle_link_tables.proofs.FreeLemmas.{has_free_told}
+use Rattle.bundle_syntax.specs.Item.{item_of}
+use Rattle.bundle_link_tables.proofs.CallLemmas.{has_free_told}
 use Rattle.bundler_entry.proofs.meta.has_free_arguments.Goals as goal
 
 pub returns : goal.returns

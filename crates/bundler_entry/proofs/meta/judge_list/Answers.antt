@@ -3,9 +3,9 @@ use Rattle.std.proofs.Common.{sym, subst, ◌∙◌, map}
 use Rattle.std.specs.Prelude.{IfSome}
 use Rattle.std.proofs.lemmas.Bool.{false≢true}
 use Rattle.bundle_tree_names.specs.FileName.{name_of}
-use Rattle.bundle_tree_piece.specs.Item.{item_of}
+use Rattle.bundle_syntax.specs.Item.{item_of}
 use Rattle.bundler_entry.specs.Hook.{IsFaultOfAnswer}
-use Rattle.bundler_entry.proofs.HookLemmas.{told_none, is_right, is_doubled, has_with, has_arguments}
+use Rattle.bundler_entry.proofs.AskedLemmas.{told_none, is_right, is_doubled, has_with, has_arguments}
 use Rattle.bundler_entry.proofs.meta.judge_list.Goals as goal
 use Rattle.bundler_entry.proofs.meta.judge_list.Goals.{else-is_iife-via-then-is_iife+else-has_free_arguments, else-is_iife-via-else-is_iife}
 

@@ -1,7 +1,7 @@
 -- What stands around the properties is put before and behind them.
 use Rattle.std.proofs.Common.{ap, ◌∙◌, map}
-use Rattle.bundle_tree_piece.specs.Item.{item_of}
-use Rattle.bundler_entry.proofs.HookLemmas.{put_around}
+use Rattle.bundle_syntax.specs.Item.{item_of}
+use Rattle.bundler_entry.proofs.AskedLemmas.{put_around}
 use Rattle.bundler_entry.proofs.meta.pieces_of_object.Goals as goal
 
 pub returns : goal.returns

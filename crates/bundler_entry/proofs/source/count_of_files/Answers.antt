@@ -1,6 +1,6 @@
 -- The count is above each number, and not above what is.
 use Rattle.std.proofs.Common.{◌+◌, arith, drop, refl}
-use Rattle.bundler_entry.proofs.CountLemmas.{above-all, above-more, above-none, least-all, least-more, least-none, none-left, one-left}
+use Rattle.bundler_entry.proofs.LinkedLemmas.{above-all, above-more, above-none, least-all, least-more, least-none, none-left, one-left}
 use Rattle.bundler_entry.proofs.source.count_of_files.Goals as goal
 
 pub loop-id-init : goal.loop-id-init

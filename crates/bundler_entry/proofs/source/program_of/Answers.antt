@@ -2,7 +2,7 @@
 use Rattle.std.proofs.Common.{ℕ, List, Contains, ap, sym, ◌∙◌, length, subst}
 use Rattle.std.specs.Borrow.{Bor}
 use Rattle.bundle_tree_names.specs.declared.file_name.FileName.{FileName}
-use Rattle.bundle_link_reached.specs.Files.{numbers_of}
+use Rattle.bundle_link.specs.Files.{numbers_of}
 use Rattle.std.specs.Prelude.{slice_get}
 use Rattle.bundler_entry.proofs.source.program_of.Goals as goal
 

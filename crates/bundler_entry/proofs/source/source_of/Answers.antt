@@ -1,8 +1,8 @@
 -- What is read of the list is that of the module.
 use Rattle.std.proofs.Common.{ap, refl, sym, ◌∙◌, subst, map}
 use Rattle.std.specs.Option.{option_map}
-use Rattle.bundle_scope_denote.specs.Listed.{IsTable, place_and_symbol}
-use Rattle.bundle_tree_piece.specs.Item.{item_of}
+use Rattle.bundle_scope_denote.specs.Listed.{IsDenotationTable, place_and_symbol}
+use Rattle.bundle_syntax.specs.Item.{item_of}
 use Rattle.bundle_rules.specs.Declarations.{BySymbol}
 use Rattle.bundle_rules.specs.Scopes.{Cjs, Es}
 use Rattle.bundle_rules.specs.Doubled.{first_doubled}
@@ -14,7 +14,7 @@ use Rattle.bundler_entry.proofs.source.source_of.Goals as goal
 
 pub tables_in-requires : goal.tables_in-requires
 tables_in-requires c = record {
-  table = subst (λ xs. IsTable BySymbol Es (map item_of xs) c.in_ok-named.named.names) (c.as_slice.ensures.value ∙ sym c.as_slice-2.ensures.value) c.in_ok-named.ensures.names;
+  table = subst (λ xs. IsDenotationTable BySymbol Es (map item_of xs) c.in_ok-named.named.names) (c.as_slice.ensures.value ∙ sym c.as_slice-2.ensures.value) c.in_ok-named.ensures.names;
   faultless = (c.requires.0, subst (IsFaultless c.requires.0) (sym (ap (map item_of) c.as_slice-2.ensures.value ∙ c.in_ok-pieces.ensures)) c.requires.1);
 }
 
@@ -24,7 +24,7 @@ returns c = λ p m links there.
     let list = ap (map item_of) c.as_slice-2.ensures.value ∙ c.in_ok-pieces.ensures in
     let last = ap (map item_of) c.as_slice-3.ensures.value ∙ c.in_ok-pieces.ensures in
     read_as p m c.args.config.now c.requires.0 c.args.loaded.now _ links there refl refl
-    (subst (λ xs. IsTable BySymbol Es xs c.in_ok-named.named.names) first c.in_ok-named.ensures.names)
+    (subst (λ xs. IsDenotationTable BySymbol Es xs c.in_ok-named.named.names) first c.in_ok-named.ensures.names)
     (c.in_ok-named.ensures.doubled ∙ ap (λ xs. option_map place_and_symbol (first_doubled Es xs)) first)
     (λ asked. c.in_ok-common_js.ensures (c.may_be_common_js-is_asked.ensures ∙ asked)
     ∙ ap (λ xs. option_map place_and_symbol (first_doubled Cjs xs)) last)

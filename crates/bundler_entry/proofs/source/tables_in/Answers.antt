@@ -1,6 +1,6 @@
 -- The tables are those of the list, which has no fault.
 use Rattle.std.proofs.Common.{ap, sym, ◌∙◌, map, string_bytes}
-use Rattle.bundle_tree_piece.specs.Item.{item_of}
+use Rattle.bundle_syntax.specs.Item.{item_of}
 use Rattle.bundle_link_tables.specs.Sources.{told_external}
 use Rattle.bundle_rules.specs.Entries.{declared_requests}
 use Rattle.bundler_entry.proofs.source.tables_in.Goals as goal

@@ -3,7 +3,7 @@ use Rattle.std.proofs.Common.{◌≡◌, None, Some, Equal, ap, nat_cmp, refl, s
 use Rattle.std.specs.BTreeMap.{get_by_text, UpdatesBy}
 use Rattle.std.specs.Cmp.Lexicographic.{slice_cmp}
 use Rattle.bundle_tree_names.specs.FileName.{name_of}
-use Rattle.bundle_json_document.proofs.Handed.{handed, still_gives, still_lacks}
+use Rattle.bundle_json_document.proofs.Maps.{handed, still_gives, still_lacks}
 use Rattle.bundle_json_document.proofs.parties.DocumentLoaderLoad.hand_over.Goals as goal
 
 pub returns-clause-answer : goal.returns-clause-answer
@@ -11,7 +11,7 @@ returns-clause-answer c =
     let files = c.args.self.now.files in
     handed files (name_of c.args.file.now) (string_bytes c.in-Real.name) _ (ap name_of c.in-Real.is) (string_bytes c.in-Some.name) refl
     (subst (λ bytes. slice_cmp nat_cmp bytes (string_bytes c.in-Some.name) ≡ Equal) c.as_str.ensures.value c.in-Some.ensures.same_key)
-    (subst (λ bytes. Some c.in-Some.«module» ≡ get_by_text files bytes) c.as_str.ensures.value c.in-Some.ensures.value)
+    (subst (λ bytes. Some c.in-Some.module ≡ get_by_text files bytes) c.as_str.ensures.value c.in-Some.ensures.value)
 
 pub returns-clause-others : goal.returns-clause-others
 returns-clause-others c =

@@ -1,5 +1,5 @@
 use Rattle.std.proofs.Common.{refl}
-use Rattle.bundle_json_document.proofs.Parts.{with_body}
+use Rattle.bundle_json_document.proofs.Turns.{with_body}
 use Rattle.bundle_json_document.proofs.stream.ModuleParts.read_body.Goals as goal
 
 pub returns-clause-ok : goal.returns-clause-ok

@@ -1,6 +1,6 @@
 use Rattle.std.proofs.Common.{refl}
 use Rattle.bundle_json_form.specs.Plain.{seen}
-use Rattle.bundle_json_document.proofs.Parts.{with_kind}
+use Rattle.bundle_json_document.proofs.Turns.{with_kind}
 use Rattle.bundle_json_document.proofs.stream.ModuleParts.read_kind.Goals as goal
 
 pub returns-clause-ok : goal.returns-clause-ok

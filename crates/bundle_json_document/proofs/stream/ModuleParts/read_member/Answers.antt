@@ -1,7 +1,7 @@
 use Rattle.std.proofs.Common.{sym, subst, OnOk}
 use Rattle.bundle_json_form.specs.Plain.{seen}
 use Rattle.bundle_json_document.specs.Stream.{KeepsModuleMember}
-use Rattle.bundle_json_document.proofs.Parts.{with_other_key}
+use Rattle.bundle_json_document.proofs.Turns.{with_other_key}
 use Rattle.bundle_json_document.proofs.stream.ModuleParts.read_member.Goals as goal
 
 pub returns-in-type-clause-ok : goal.returns-in-type-clause-ok

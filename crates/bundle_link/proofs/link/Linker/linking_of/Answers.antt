@@ -1,17 +1,17 @@
 use Rattle.std.proofs.Common.{◌≡◌, ℕ, Bool, List, length, ap, sym, ◌∙◌, subst, arith}
 use Rattle.std.proofs.lemmas.Result.{IfOk-weaker}
 use Rattle.bundle_rules.specs.Program.{Program}
-use Rattle.bundle_link_index.specs.Programs.{IsProgramOf}
+use Rattle.bundle_link_index.specs.Programs.{IsLinkProgram}
 use Rattle.bundle_link_index.specs.declared.target.LinkModule.{LinkModule}
 use Rattle.bundle_link_targets.specs.Linked.{HandsOver, IsJudgedBy}
-use Rattle.bundle_link_reached.specs.Judged.{numbers_below}
+use Rattle.bundle_link.specs.Judged.{numbers_below}
 use Rattle.bundle_link.proofs.link.Linker.linking_of.Goals as goal
 
 -- what is handed on is what was handed in
-handed : (q : Program) (modules : List LinkModule) (listed list : List ℕ) (entry at : ℕ) (require asked : Bool) → list ≡ listed → at ≡ entry → asked ≡ require → IsProgramOf q modules listed entry require → IsProgramOf q modules list at asked
+handed : (q : Program) (modules : List LinkModule) (listed list : List ℕ) (entry at : ℕ) (require asked : Bool) → list ≡ listed → at ≡ entry → asked ≡ require → IsLinkProgram q modules listed entry require → IsLinkProgram q modules list at asked
 handed q modules listed list entry at require asked same_list same_entry same w =
-    subst (λ (l : List ℕ). IsProgramOf q modules l at asked) (sym same_list)
-    (subst (λ (m : ℕ). IsProgramOf q modules listed m asked) (sym same_entry) (subst (λ (b : Bool). IsProgramOf q modules listed entry b) (sym same) w))
+    subst (λ (l : List ℕ). IsLinkProgram q modules l at asked) (sym same_list)
+    (subst (λ (m : ℕ). IsLinkProgram q modules listed m asked) (sym same_entry) (subst (λ (b : Bool). IsLinkProgram q modules listed entry b) (sym same) w))
 
 pub returns-clause-linked : goal.returns-clause-linked
 returns-clause-linked c =

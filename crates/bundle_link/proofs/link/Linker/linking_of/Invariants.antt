@@ -1,6 +1,6 @@
 -- The places that were passed.
 use Rattle.std.proofs.Common.{◌≡◌}
-use Rattle.bundle_link_reached.specs.Judged.{numbers_below}
+use Rattle.bundle_link.specs.Judged.{numbers_below}
 use Rattle.bundle_link.proofs.link.Linker.linking_of.Given as goal
 
 abbrev pub invariant-loop-place : goal.invariant-loop-place

@@ -2,9 +2,9 @@
 use Rattle.std.proofs.Common.{List, inl, refl, sym, ap, ◌∙◌, subst}
 use Rattle.std.proofs.lemmas.Result.{IfOk-from_err, err_from_is_err_and}
 use Rattle.bundle_rules.specs.Nodes.{numbers_once}
-use Rattle.bundle_link.specs.Programs.{AreFaultless, AreModulesOf, is_call, numbers}
-use Rattle.bundle_link_reached.proofs.NumberLemmas.{once-same}
-use Rattle.bundle_link.proofs.CheckLemmas.{files_at, trees_of}
+use Rattle.bundle_link.specs.Programs.{AreModulesFaultless, AreTransformedOf, is_one_call, module_numbers}
+use Rattle.bundle_link.proofs.NumberLemmas.{once-same}
+use Rattle.bundle_link.proofs.ProgramLemmas.{files_at, trees_of}
 use Rattle.bundle_link.specs.declared.transformed.TransformedModule.{TransformedModule}
 use Rattle.bundle_link.proofs.link.Linker.new.Goals as goal
 
@@ -25,11 +25,11 @@ returns-in_err-config-clause-refused c =
 pub returns-clause-linked : goal.returns-clause-linked
 returns-clause-linked c = λ p w.
     let modules = c.args.modules.items in
-    let ids = c.in_ok-linked.ensures.ids ∙ ap (λ (ms : List TransformedModule). numbers_once (numbers ms)) c.deref.ensures.value in
+    let ids = c.in_ok-linked.ensures.ids ∙ ap (λ (ms : List TransformedModule). numbers_once (module_numbers ms)) c.deref.ensures.value in
     record {
       modules = record {
         links = (w.links.0 ∙ sym c.in_ok-config.ensures.require, w.links.1 ∙ sym c.in_ok-config.ensures.external);
-        iife = w.iife ∙ ap is_call (sym c.in_ok-config.ensures.module);
+        iife = w.iife ∙ ap is_one_call (sym c.in_ok-config.ensures.which);
         each = w.each;
         apart = w.apart;
         others = w.others;
@@ -37,9 +37,9 @@ returns-clause-linked c = λ p w.
         begins = w.begins;
         entry_there = w.entry_there;
       };
-      faultless = subst AreFaultless c.deref.ensures.value c.in_ok-linked.ensures.faultless;
-      numbered = ids ∙ once-same (numbers modules) w.apart;
-      linked = c.in_ok-linked.ensures.linked p (subst (λ (ms : List TransformedModule). AreModulesOf p ms c.args.config.now c.args.entry) (sym c.deref.ensures.value) w);
+      faultless = subst AreModulesFaultless c.deref.ensures.value c.in_ok-linked.ensures.faultless;
+      numbered = ids ∙ once-same (module_numbers modules) w.apart;
+      linked = c.in_ok-linked.ensures.linked p (subst (λ (ms : List TransformedModule). AreTransformedOf p ms c.args.config.now c.args.entry) (sym c.deref.ensures.value) w);
       trees = trees_of p c.args.modules.items c.args.config.now c.args.entry w;
       files = files_at p c.args.modules.items c.args.config.now c.args.entry c.in_ok-linked.linked.ids.keys w ids;
     }

@@ -1,4 +1,4 @@
-use Rattle.bundle_link.proofs.CheckLemmas.{are_modules}
+use Rattle.bundle_link.proofs.ProgramLemmas.{are_modules}
 use Rattle.bundle_link.proofs.link.Linker.should_be_wrapped_with_a_fn.Goals as goal
 
 pub returns-clause-told : goal.returns-clause-told

@@ -1,4 +1,4 @@
-use Rattle.bundle_link_index.proofs.StarredLemmas.{reach_is}
+use Rattle.bundle_link_index.proofs.LinkedLemmas.{reach_is}
 use Rattle.bundle_link_index.proofs.index.Index.reach.Goals as goal
 
 pub returns : goal.returns

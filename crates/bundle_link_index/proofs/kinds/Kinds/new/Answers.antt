@@ -1,6 +1,5 @@
-use Rattle.std.proofs.Common.{◌∙◌}
 use Rattle.bundle_link_index.specs.Handed.{required_by}
-use Rattle.bundle_link_index.proofs.HandedLemmas.{are_modules}
+use Rattle.bundle_link_index.proofs.ProgramLemmas.{are_modules}
 use Rattle.bundle_link_index.proofs.kinds.Kinds.new.Goals as goal
 
 pub returns-clause-right : goal.returns-clause-right

@@ -4,7 +4,7 @@ use Rattle.bundle_link_index.specs.Outside.{IsIndexOf}
 use Rattle.bundle_link_index.specs.Leads.{flagged}
 use Rattle.bundle_rules.specs.Tables.{TellsCommonJs}
 use Rattle.bundle_link_targets.specs.Linked.{HandsOut}
-use Rattle.bundle_link_targets.specs.Judged.{IsJudged}
+use Rattle.bundle_link_targets.specs.Judged.{IsStageJudged}
 use Rattle.bundle_link_targets.specs.Stages.{AreKindsOf}
 use Rattle.bundle_link_targets.specs.Found.{HoldsMeant, targets_in}
 use Rattle.bundle_link_targets.specs.Handed.{HoldsLinked, HoldsMeanings}
@@ -26,10 +26,10 @@ returns-clause-judged c = λ p w iife.
     let held = c.in_ok-kinds.ensures.held in
     let kinds : AreKindsOf p c.in_ok-kinds.kinds = record { modules = c.in_ok-kinds.ensures.right p w; iife = iife ∙ sym held.1 } in
     record {
-      calls = subst (λ l. IsJudged p l 0 2 c.joined.result.call_fault) held.0 (c.joined.ensures.calls p kinds);
+      calls = subst (λ l. IsStageJudged p l 0 2 c.joined.result.call_fault) held.0 (c.joined.ensures.calls p kinds);
       links = λ are.
-          subst (λ fault. IsJudged p c.args.list.now 3 9 fault) (sym c.joined.ensures.links)
-          (subst (λ l. IsJudged p l 3 9 c.in_ok-indexed.indexed.found.link_fault) held.0 (c.in_ok-indexed.ensures.judged p kinds are));
+          subst (λ fault. IsStageJudged p c.args.list.now 3 9 fault) (sym c.joined.ensures.links)
+          (subst (λ l. IsStageJudged p l 3 9 c.in_ok-indexed.indexed.found.link_fault) held.0 (c.in_ok-indexed.ensures.judged p kinds are));
     }
 
 pub returns-clause-handed : goal.returns-clause-handed

@@ -3,7 +3,7 @@ use Rattle.std.proofs.Common.{ap, map, ◌∙◌, subst}
 use Rattle.bundle_rules.specs.Linking.{HasExternalStar}
 use Rattle.bundle_link_targets.specs.Found.{targets_in}
 use Rattle.bundle_link_targets.specs.Lists.{list_in}
-use Rattle.bundle_link_targets.specs.Taken.{Picks, specifier_of}
+use Rattle.bundle_link_targets.specs.Taken.{PicksThose, specifier_of}
 use Rattle.bundle_link_targets.proofs.CalledLemmas.{are-symbols}
 use Rattle.bundle_link_targets.proofs.HandedLemmas.{are-externals, are-loads}
 use Rattle.bundle_link_targets.proofs.TakenLemmas.{text-of}
@@ -19,5 +19,5 @@ returns c = λ p is are holds.
       externals = outside;
       symbols = are-symbols p c.args.kinds.now are c.in_ok-symbols_of.field-0 c.in_ok-symbols_of.ensures;
       loads = λ m reached. are-loads p c.args.kinds.now are targets holds m (list_in c.in_ok-loads_of.field-0.items m) (c.in_ok-loads_of.ensures m ((are.reached m).1 reached));
-      stars = subst (λ l. Picks (HasExternalStar p p.entry) l (map text-of c.in_ok-external_stars.external_stars.items)) (ap (map specifier_of) c.as_slice.ensures.value ∙ outside.specifiers) (c.in_ok-external_stars.ensures p is are);
+      stars = subst (λ l. PicksThose (HasExternalStar p p.entry) l (map text-of c.in_ok-external_stars.external_stars.items)) (ap (map specifier_of) c.as_slice.ensures.value ∙ outside.specifiers) (c.in_ok-external_stars.ensures p is are);
     }

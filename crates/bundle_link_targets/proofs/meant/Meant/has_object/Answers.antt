@@ -1,5 +1,5 @@
-use Rattle.bundle_link_targets.proofs.MeetLemmas.{object-told}
+use Rattle.bundle_link_targets.proofs.HandedLemmas.{object-told}
 use Rattle.bundle_link_targets.proofs.meant.Meant.has_object.Goals as goal
 
 pub returns : goal.returns
-returns c = λ p holds. object-told p c.args.self.now.targets holds c.args.module c.contains.result c.contains.ensures
+returns c = λ p holds. object-told p c.args.self.now.targets holds c.args.which c.contains.result c.contains.ensures

@@ -2,14 +2,14 @@ use Rattle.std.proofs.Common.{◌≡◌, ℕ, ◌+◌, ap, length, map, option_m
 use Rattle.std.proofs.lemmas.List.{length-map}
 use Rattle.std.proofs.lemmas.Option.{slice_get-map}
 use Rattle.bundle_rules.specs.Linking.{Namespace}
-use Rattle.bundle_link_search.specs.Given.{IsIn}
+use Rattle.bundle_link_index.specs.Given.{IsIn}
 use Rattle.bundle_link_index.specs.Outside.{IsIndexOf}
 use Rattle.bundle_link_index.specs.Says.{target_of}
 use Rattle.bundle_link_targets.specs.Found.{targets_in}
 use Rattle.bundle_link_targets.specs.Handed.{AreLinkedIn}
-use Rattle.bundle_link_targets.proofs.FillLemmas.{fills-none, fills-same, fills-then}
-use Rattle.bundle_link_targets.proofs.LinkLemmas.{MetBefore, met-end, met-step}
-use Rattle.bundle_link_targets.proofs.MeetLemmas.{Meets-begins, Meets-steps, Meets-ends}
+use Rattle.bundle_link_targets.proofs.CallPlaceLemmas.{fills-none, fills-same, fills-then}
+use Rattle.bundle_link_targets.proofs.UseLemmas.{MetBefore, met-end, met-step}
+use Rattle.bundle_link_targets.proofs.HandedLemmas.{Meets-begins, Meets-steps, Meets-ends}
 use Rattle.bundle_link_targets.proofs.meant.Meant.link_met.Goals as goal
 
 pub loop-done-init : goal.loop-done-init

@@ -1,7 +1,7 @@
 -- What is put in says what both say, one after the other.
 use Rattle.std.proofs.Common.{◌≡◌, ◌++◌, ◌∷◌, [], map, refl, ◌∙◌, rules}
 use Rattle.bundle_rules.specs.Rebuilds.{followed_by}
-use Rattle.bundle_marks.specs.Renamings.{pair_of}
+use Rattle.bundle_marks.specs.Renamings.{renaming_pair}
 use Rattle.bundle_marks.proofs.RenamingLemmas.{clone-says, composes, followed-end, followed-start, followed-step, followed_by-keeps, same-keeps, view-keeps}
 use Rattle.bundle_marks.proofs.renaming.Renaming.then.Goals as goal
 
@@ -27,8 +27,8 @@ loop-from-preserved-in_ok-insert c =
 
 pub invariant_of-result : goal.invariant_of-result
 invariant_of-result c =
-    let first = map pair_of c.self.inside.steps.entries in
-    same-keeps (map pair_of c.loop-from.steps.entries) (followed_by first c.args.next.now)
+    let first = map renaming_pair c.self.inside.steps.entries in
+    same-keeps (map renaming_pair c.loop-from.steps.entries) (followed_by first c.args.next.now)
     (followed-end c.self.inside.steps.entries c.loop-from.from-iterator.iter first c.args.next.now c.loop-from.steps refl c.loop-from.invariant c.in-None.ensures.steps.0)
     (followed_by-keeps first c.args.next.now c.self.invariant (view-keeps c.next.inside.steps.entries c.args.next.now c.next.view_is c.next.invariant))
 
@@ -37,6 +37,6 @@ returns-clause-says c = followed-end c.self.inside.steps.entries c.loop-from.fro
 
 pub returns-clause-law : goal.returns-clause-law
 returns-clause-law c =
-    composes c.args.self.now c.args.next.now (map pair_of c.loop-from.steps.entries)
+    composes c.args.self.now c.args.next.now (map renaming_pair c.loop-from.steps.entries)
     (view-keeps c.self.inside.steps.entries c.args.self.now c.self.view_is c.self.invariant)
     (followed-end c.self.inside.steps.entries c.loop-from.from-iterator.iter c.args.self.now c.args.next.now c.loop-from.steps c.self.view_is c.loop-from.invariant c.in-None.ensures.steps.0)

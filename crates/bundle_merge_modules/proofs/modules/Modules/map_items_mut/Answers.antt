@@ -1,10 +1,10 @@
 use Rattle.std.proofs.Common.{inl, inr, ◌∙◌, List, ap, refl, subst}
 use Rattle.std.proofs.lemmas.Result.{IfErr-weaker, on_ok_weaker}
-use Rattle.bundle_tree_piece.specs.Item.{Item}
+use Rattle.bundle_syntax.specs.Item.{Item}
 use Rattle.bundle_tree_listed.specs.Tree.{module_item_items}
-use Rattle.bundle_merge_parts.specs.Held.{Replies as RepliesOf}
+use Rattle.bundle_merge_modules.specs.Calls.{RepliesOf}
 use Rattle.bundle_rules.specs.Parts.{Parts, MapsItems, in_order}
-use Rattle.bundle_merge_modules.specs.Held.{Refuses, RefusesItem, Replies, parts_held}
+use Rattle.bundle_merge_modules.specs.Held.{RefusesCall, RefusesItem, Replies, parts_held}
 use Rattle.bundle_merge_modules.proofs.TreeLemmas.{MapsItems-made, made, order-made, stops-made}
 use Rattle.bundle_merge_modules.proofs.modules.Modules.map_items_mut.Goals as goal
 
@@ -30,7 +30,7 @@ returns-clause-why g c =
       | inl memory ↦ inl memory
       | inr stops ↦
           inr (subst (λ l. RefusesItem calls refusal l) is
-          (stops-made (made tree) (λ one. (answer : List Item) × Replies calls one.0 one.1 answer) (Refuses calls refusal) stops
+          (stops-made (made tree) (λ one. (answer : List Item) × Replies calls one.0 one.1 answer) (RefusesCall calls refusal) stops
           (λ one a. (tree a.0, (a.1.0, a.0, ap tree a.1.1, a.1.2, refl)))
           (λ one r. (r.0, ap tree r.1, r.2))))
     ])

@@ -1,11 +1,11 @@
 use Rattle.std.proofs.Common.{inl, inr, ◌∙◌, List, Option, ap, refl, subst}
 use Rattle.std.specs.Prelude.{option_map}
 use Rattle.std.proofs.lemmas.Result.{IfErr-weaker, on_ok_weaker}
-use Rattle.bundle_tree_piece.specs.Item.{Item}
+use Rattle.bundle_syntax.specs.Item.{Item}
 use Rattle.bundle_tree_listed.specs.Tree.{module_item_items}
-use Rattle.bundle_merge_parts.specs.Held.{Picks as PicksOf}
+use Rattle.bundle_merge_modules.specs.Calls.{PicksOf}
 use Rattle.bundle_rules.specs.Parts.{Parts, in_order}
-use Rattle.bundle_merge_modules.specs.Held.{MapsSome, Picks, Refuses, RefusesPick, parts_held}
+use Rattle.bundle_merge_modules.specs.Held.{MapsSome, PicksItem, RefusesCall, RefusesPick, parts_held}
 use Rattle.bundle_merge_modules.proofs.TreeLemmas.{MapsSome-made, made, order-made, stops-made}
 use Rattle.bundle_merge_modules.proofs.modules.Modules.map_some_items.Goals as goal
 
@@ -13,7 +13,7 @@ pub returns-clause-answered : goal.returns-clause-answered
 returns-clause-answered g c =
     let tree = module_item_items 0 in
     let may = PicksOf (goal.F-post g c.args.f.now) in
-    let say = Picks (goal.F-post g c.args.f.now) in
+    let say = PicksItem (goal.F-post g c.args.f.now) in
     on_ok_weaker c.map_some_items.result
     (λ is.
     subst (λ (parts : Parts). MapsSome say parts (parts_held c.map_some_items.new.self)) c.self.view_is
@@ -31,7 +31,7 @@ returns-clause-why g c =
       | inl memory ↦ inl memory
       | inr stops ↦
           inr (subst (λ l. RefusesPick calls refusal l) is
-          (stops-made (made tree) (λ one. (answer : Option (List Item)) × Picks calls one.0 one.1 answer) (Refuses calls refusal) stops
+          (stops-made (made tree) (λ one. (answer : Option (List Item)) × PicksItem calls one.0 one.1 answer) (RefusesCall calls refusal) stops
           (λ one a. (option_map tree a.0, (a.1.0, a.0, ap tree a.1.1, a.1.2, refl)))
           (λ one r. (r.0, ap tree r.1, r.2))))
     ])

@@ -2,12 +2,12 @@
 use Rattle.std.proofs.Common.{ℕ, List, map, sym, subst}
 use Rattle.std.specs.Prelude.{IsPermutation}
 use Rattle.std.proofs.lemmas.Result.{on_ok_weaker}
-use Rattle.bundle_merge_parts.specs.Parts.{in_order as in_order_of}
+use Rattle.bundle_merge_modules.specs.Parts.{all_in_order as in_order_of}
 use Rattle.bundle_rules.specs.Parts.{Parts, in_order}
 use Rattle.bundle_merge_modules.specs.Held.{parts_held, trees_of}
 use Rattle.bundle_merge_modules.specs.Placed.{IsNewOrder}
 use Rattle.bundle_merge_modules.specs.Sorted.{IsSortedWhole}
-use Rattle.bundle_merge_modules.proofs.SortLemmas.{moved, sorted-into, sorted-whole}
+use Rattle.bundle_merge_modules.proofs.InlinedLemmas.{moved, sorted-into, sorted-whole}
 use Rattle.bundle_merge_modules.proofs.modules.Modules.sort.Goals as goal
 
 pub returns-clause-sorted : goal.returns-clause-sorted

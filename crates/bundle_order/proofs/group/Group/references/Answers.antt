@@ -1,21 +1,21 @@
 -- What is found in the closed list is that of the items.
 use Rattle.std.proofs.Common.{◌≡◌, ℕ, Bool, Option, List, [], ◌∷◌, ◌++◌, map, refl, sym, ap, ◌∙◌, subst}
 use Rattle.std.proofs.lemmas.List.{map-append}
-use Rattle.bundle_tree_piece.specs.declared.piece.Piece.{Piece}
-use Rattle.bundle_tree_piece.specs.declared.piece.Piece.TheVariants as p
-use Rattle.bundle_tree_piece.specs.Item as h
-use Rattle.bundle_tree_piece.specs.Item.{Item, item_of}
+use Rattle.bundle_syntax.specs.declared.piece.Piece.{Piece}
+use Rattle.bundle_syntax.specs.declared.piece.Piece.TheVariants as p
+use Rattle.bundle_syntax.specs.Item as h
+use Rattle.bundle_syntax.specs.Item.{Item, item_of}
 use Rattle.bundle_rules.specs.Scopes.{Es, Top}
 use Rattle.bundle_rules.specs.Declarations.{ByContext}
 use Rattle.bundle_rules.specs.Order.{group_of}
 use Rattle.bundle_rules.specs.Parts.{tree_of_items}
 use Rattle.bundle_rules.specs.Sorting.{flat}
 use Rattle.bundle_rules.specs.Statements.{TopItem, placed}
-use Rattle.bundle_scope_denote.specs.Listed.{IsTable}
-use Rattle.bundle_order_needs.specs.Found.{AreReferences}
-use Rattle.bundle_order_needs.specs.declared.needs.ItemRange.{ItemRange}
-use Rattle.bundle_order_needs.specs.Cut.{cut_items, references_of}
-use Rattle.bundle_order_needs.specs.Owners.{module_of, shared_owner_of, owner_of as range_owner}
+use Rattle.bundle_scope_denote.specs.Listed.{IsDenotationTable}
+use Rattle.bundle_order.specs.Found.{AreReferences}
+use Rattle.bundle_order.specs.declared.needs.ItemRange.{ItemRange}
+use Rattle.bundle_order.specs.Cut.{cut_items, references_of}
+use Rattle.bundle_order.specs.Owners.{range_module, shared_owner_of, range_owner}
 use Rattle.bundle_order.specs.Owned.{owner_by}
 use Rattle.bundle_order.proofs.group.Group.references.Goals as goal
 
@@ -38,9 +38,9 @@ returns-clause-found c = λ lists owners g.
     let found = map references_of c.in_ok-shared.shared.0.items in
     let shared : List (List ℕ) = map (λ v. v.items) c.in_ok-shared.shared.1.items in
     let same = c.deref.ensures.value ∙ sym c.deref-2.ensures.value in
-    let is : IsTable ByContext Es (map item_of list) c.in_ok-table.table = subst (λ (l : List Piece). IsTable ByContext Es (map item_of l) c.in_ok-table.table) same c.in_ok-table.ensures in
+    let is : IsDenotationTable ByContext Es (map item_of list) c.in_ok-table.table = subst (λ (l : List Piece). IsDenotationTable ByContext Es (map item_of l) c.in_ok-table.table) same c.in_ok-table.ensures in
     let tree : map item_of list ≡ tree_of_items (flat lists) = ap (λ (l : List Piece). map item_of l) (c.deref-2.ensures.value ∙ c.in_ok-push.ensures.items) ∙ (map-append item_of c.args.self.list.items (p.Close ∷ []) ∙ ap (λ (l : List Item). l ++ h.Close ∷ []) g.list) in
     subst (λ (o : List (Option ℕ)). AreReferences (group_of ByContext Top (tree_of_items (flat lists)) (placed 1 lists) o) found shared) g.owned
-    (subst (λ (k : List TopItem). AreReferences (group_of ByContext Top (tree_of_items (flat lists)) k (map module_of ranges)) found shared) (g.cut (h.Close ∷ []))
-    (subst (λ (t : List Item). AreReferences (group_of ByContext Top t (cut_items t ranges) (map module_of ranges)) found shared) tree
-    (subst (λ (r : List ItemRange). AreReferences (group_of ByContext Top (map item_of list) (cut_items (map item_of list) r) (map module_of r)) found shared) c.deref-3.ensures.value (c.in_ok-shared.ensures.found is is.top))))
+    (subst (λ (k : List TopItem). AreReferences (group_of ByContext Top (tree_of_items (flat lists)) k (map range_module ranges)) found shared) (g.cut (h.Close ∷ []))
+    (subst (λ (t : List Item). AreReferences (group_of ByContext Top t (cut_items t ranges) (map range_module ranges)) found shared) tree
+    (subst (λ (r : List ItemRange). AreReferences (group_of ByContext Top (map item_of list) (cut_items (map item_of list) r) (map range_module r)) found shared) c.deref-3.ensures.value (c.in_ok-shared.ensures.found is is.top))))

@@ -3,11 +3,10 @@ use Rattle.std.proofs.Common.{◌≡◌, ◌<◌, ◌||◌, length, map, ap, sym
 use Rattle.std.specs.Borrow.{Bor}
 use Rattle.std.proofs.lemmas.List.{length-map}
 use Rattle.std.proofs.lemmas.Option.{slice_get_within}
-use Rattle.bundle_tree_piece.specs.Item.{item_of}
+use Rattle.bundle_syntax.specs.Item.{item_of}
 use Rattle.bundle_rules.specs.Nodes.{Text}
 use Rattle.bundle_scope_names.specs.Marks.{is_among}
-use Rattle.bundle_scope_names.proofs.GlobalLemmas.{among-more, called-same}
-use Rattle.bundle_scope_names.proofs.SymbolLemmas.{adds-symbol, adds-no_symbol}
+use Rattle.bundle_scope_names.proofs.SymbolLemmas.{among-more, called-same, adds-symbol, adds-no_symbol}
 use Rattle.bundle_scope_names.proofs.hygiene.Before.add.Goals as goal
 
 pub returns-in_default : goal.returns-in_default

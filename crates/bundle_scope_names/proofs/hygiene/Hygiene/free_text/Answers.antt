@@ -5,8 +5,8 @@ use Rattle.std.proofs.lemmas.Map.Text.{hash_set_updates_text}
 use Rattle.bundle_rules.specs.Nodes.{Text}
 use Rattle.bundle_rules.specs.Renaming.{numbered}
 use Rattle.bundle_scope_names.specs.declared.hygiene.Hygiene.{Hygiene}
-use Rattle.bundle_scope_names.specs.Marks.{number_in, needed_by, kept_by, has_taken, has_given, last_by, last_of}
-use Rattle.bundle_scope_names.proofs.TestLemmas.{given-or, bytes_comm}
+use Rattle.bundle_scope_names.specs.Marks.{symbol_number, needed_by, marks_kept, has_taken, has_given, last_by, last_of}
+use Rattle.bundle_scope_names.proofs.HomesLemmas.{given-or, bytes_comm}
 use Rattle.bundle_scope_names.proofs.KnowsLemmas.{least-from, numbered-some, last-next}
 use Rattle.bundle_scope_names.proofs.hygiene.Hygiene.free_text.Goals as goal
 
@@ -31,11 +31,11 @@ returns-then-not-is_taken-clause-gives c = λ is.
       is_text,
       record {
         is_least = λ tried. least-from (λ other. has_taken c.args.self.now (numbered c.args.sym.now other)) (last_of c.args.self.now c.args.sym.now) n lt tried (λ k over below. let le : k ≤ c.loop-tried.tried = omega arith in c.loop-tried.invariant.1 k (subst (λ m. m < k) (sym first) over) le) free;
-        kept = ap kept_by same;
+        kept = ap marks_kept same;
         needed = ap needed_by same;
         symbols = ap (λ (h : Hygiene). h.symbols.keys) same;
         given = λ other. hash_set_updates_text (string_bytes c.in_ok-clone.field-0) c.loop-tried.self.given c.insert.new.self true c.in_ok-insert.ensures.updates other ∙ given-or (bytes_eq (string_bytes c.in_ok-clone.field-0) other) (has_given c.loop-tried.self other) ∙ ap₂ (λ (a : Bool) (b : Bool). a || b) (ap (λ (h : Hygiene). has_given h other) same) (bytes_comm (string_bytes c.in_ok-clone.field-0) other ∙ ap (bytes_eq other) (cloned ∙ is_text));
-        last = λ other. subst (λ (h : Hygiene). last_by c.set_last.new.last.items (number_in c.loop-tried.self.symbols.keys other) ≤ cond (bytes_eq c.args.sym.now other) n (last_by h.last.items (number_in h.symbols.keys other))) same (last-next c.loop-tried.self.symbols.keys c.loop-tried.self.last.items c.set_last.new.last.items c.args.sym.now other c.args.symbol n (ap (λ (h : Hygiene). number_in h.symbols.keys c.args.sym.now) same ∙ is) c.set_last.ensures);
+        last = λ other. subst (λ (h : Hygiene). last_by c.set_last.new.last.items (symbol_number c.loop-tried.self.symbols.keys other) ≤ cond (bytes_eq c.args.sym.now other) n (last_by h.last.items (symbol_number h.symbols.keys other))) same (last-next c.loop-tried.self.symbols.keys c.loop-tried.self.last.items c.set_last.new.last.items c.args.sym.now other c.args.symbol n (ap (λ (h : Hygiene). symbol_number h.symbols.keys c.args.sym.now) same ∙ is) c.set_last.ensures);
       },
     )
 

@@ -3,7 +3,7 @@ use Rattle.std.proofs.Common.{◌≡◌, ◌+◌, suc, None, Some, false, length
 use Rattle.std.specs.Prelude.{slice_get}
 use Rattle.std.proofs.lemmas.Option.{slice_get-get_or}
 use Rattle.bundle_scope_denote.specs.declared.table.Denoted.{Denoted}
-use Rattle.bundle_scope_names.proofs.UsesLemmas.{AreLinked, linked-first, linked-next, linked-last}
+use Rattle.bundle_scope_names.proofs.KnowsLemmas.{AreLinked, linked-first, linked-next, linked-last}
 use Rattle.bundle_scope_names.proofs.uses.Uses.of.Goals as goal
 
 pub loop-number-init : goal.loop-number-init

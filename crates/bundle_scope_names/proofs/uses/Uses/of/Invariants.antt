@@ -1,5 +1,5 @@
 -- The occurrences gone over are linked.
-use Rattle.bundle_scope_names.proofs.UsesLemmas.{AreLinked}
+use Rattle.bundle_scope_names.proofs.KnowsLemmas.{AreLinked}
 use Rattle.bundle_scope_names.proofs.uses.Uses.of.Given as goal
 
 abbrev pub invariant-loop-number : goal.invariant-loop-number

@@ -1,6 +1,6 @@
 -- A namespace or a name.
 use Rattle.std.proofs.lemmas.Result.{IfOk-weaker}
-use Rattle.bundle_tree_piece.specs.declared.piece.Role.TheVariants.{Word}
+use Rattle.bundle_syntax.specs.declared.piece.Role.TheVariants.{Word}
 use Rattle.bundle_tree_rebuild.specs.Parts.{role_of}
 use Rattle.bundle_tree_rebuild.proofs.ModuleRules as rule
 use Rattle.bundle_tree_rebuild.proofs.Remaking.{along}

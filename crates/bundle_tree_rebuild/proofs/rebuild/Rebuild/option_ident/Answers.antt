@@ -1,6 +1,6 @@
 -- One stands there or none.
 use Rattle.std.proofs.Common.{refl}
-use Rattle.bundle_tree_piece.specs.declared.piece.Role.TheVariants.{Binding}
+use Rattle.bundle_syntax.specs.declared.piece.Role.TheVariants.{Binding}
 use Rattle.bundle_tree_listed.specs.Tree.{ident_items}
 use Rattle.bundle_tree_rebuild.proofs.Leaves as leaf
 use Rattle.bundle_tree_rebuild.proofs.Remaking.{along, named}

@@ -1,6 +1,6 @@
 -- The name stays, if there is one.
 use Rattle.std.proofs.Common.{ap, sym, ◌∙◌}
-use Rattle.bundle_tree_piece.specs.declared.piece.Role.TheVariants.{Word}
+use Rattle.bundle_syntax.specs.declared.piece.Role.TheVariants.{Word}
 use Rattle.bundle_tree_rebuild.specs.Parts.{option_word_items}
 use Rattle.bundle_tree_rebuild.proofs.rebuild.Rebuild.option_word.Goals as goal
 

@@ -1,6 +1,6 @@
 -- Its texts stay.
 use Rattle.std.proofs.Common.{◌≡◌, ◌∙◌, ap, string_bytes, option_map}
-use Rattle.bundle_tree_piece.specs.Item as h
+use Rattle.bundle_syntax.specs.Item as h
 use Rattle.bundle_tree_listed.specs.Tree.{node}
 use Rattle.bundle_tree_rebuild.proofs.Leaves as leaf
 use Rattle.bundle_tree_rebuild.proofs.rebuild.Rebuild.str.Goals as goal

@@ -6,14 +6,12 @@ use Rattle.std.specs.List.{AllZip}
 use Rattle.bundler_entry.specs.Unlinked.{error_of}
 use Rattle.bundle_tree_names.specs.declared.error.Error.TheVariants.{OutOfMemory}
 use Rattle.bundle_rules.specs.Judging.{Completes}
-use Rattle.bundler_call.specs.Judged.{asked_by, IsBundledFor, IsToldOf}
+use Rattle.bundler_call.specs.Judged.{parties_asked, IsBundledFor, IsRefusalTold}
 use Rattle.bundler_call.specs.Kept.{entry_of, kept_of, parties_of, settings_of}
 use Rattle.bundler_call.specs.Linking.{IsNumberedOn, IsRefusalOfEntries}
-use Rattle.bundler_call.proofs.Bundling.{all_finished, along}
-use Rattle.bundler_call.proofs.Ending.{answers_none, bundled_headline, completed_stops, empty_headline, refused_headline, refused_linking, some_entry, IsRefusedBy}
-use Rattle.bundler_call.proofs.Finding.{handed_on}
-use Rattle.bundler_call.proofs.Handing.{grows_along_entries}
-use Rattle.bundler_call.proofs.Linking.{all_bundled_as, refusal_as}
+use Rattle.bundler_call.proofs.Sources.{all_finished, along, grows_along_entries, all_bundled_as, refusal_as}
+use Rattle.bundler_call.proofs.Leading.{answers_none, bundled_headline, completed_stops, empty_headline, refused_headline, refused_linking, some_entry, IsRefusedBy}
+use Rattle.bundler_call.proofs.Growing.{handed_on}
 use Rattle.bundler_call.proofs.Unasked.{completes_beside, refused_beside}
 use Rattle.bundler_call.proofs.bundler.Bundler.bundle.Goals as goal
 
@@ -65,7 +63,7 @@ returns-in_err-list-clause-headline g c =
     refused_headline _ settings c.args.entries.items old new c.from_residual.result c.in_err-list.field-0.0 c.from_residual.ensures.1
     (grows_along_entries _ settings c.as_slice.result.now c.args.entries.items old new c.as_slice.ensures.value c.in_err-list.ensures.grows.grows)
     (refused_beside g.L.Load.may_load g.L.Load.may_fail_load g.R.Resolve.may_resolve g.R.Resolve.may_fail_resolve _ _ settings c.args.self.now.library.loader c.args.self.now.library.resolver c.from_residual.result c.in_err-list.field-0.0 c.from_residual.ensures.1 (map entry_of c.args.entries.items) old new
-    (subst (λ xs. IsToldOf (asked_by g.L.Load.may_load g.L.Load.may_fail_load g.R.Resolve.may_resolve g.R.Resolve.may_fail_resolve c.args.self.now.library.loader c.args.self.now.library.resolver) settings (map entry_of xs) old new c.in_err-list.field-0.0) c.as_slice.ensures.value c.in_err-list.ensures.refused))
+    (subst (λ xs. IsRefusalTold (parties_asked g.L.Load.may_load g.L.Load.may_fail_load g.R.Resolve.may_resolve g.R.Resolve.may_fail_resolve c.args.self.now.library.loader c.args.self.now.library.resolver) settings (map entry_of xs) old new c.in_err-list.field-0.0) c.as_slice.ensures.value c.in_err-list.ensures.refused))
 
 pub returns-in_err-merged-clause-headline : goal.returns-in_err-merged-clause-headline
 returns-in_err-merged-clause-headline g c =
@@ -80,7 +78,7 @@ returns-in_err-merged-clause-headline g c =
     (grows_along_entries _ settings c.as_slice.result.now c.args.entries.items old new c.as_slice.ensures.value c.in_ok-list.ensures.grows.grows)
     (refused_linking _ settings _ (map entry_of c.args.entries.items) old new c.in_err-merged.field-0.0 c.from_residual-in_err-merged.ensures.1
     (completes_beside g.L.Load.may_load g.L.Load.may_fail_load g.R.Resolve.may_resolve g.R.Resolve.may_fail_resolve _ _ settings c.args.self.now.library.loader c.args.self.now.library.resolver (map entry_of c.args.entries.items) old new
-    (subst (λ xs. Completes (asked_by g.L.Load.may_load g.L.Load.may_fail_load g.R.Resolve.may_resolve g.R.Resolve.may_fail_resolve c.args.self.now.library.loader c.args.self.now.library.resolver) settings (map entry_of xs) old new) c.as_slice.ensures.value c.in_ok-list.ensures.completes))
+    (subst (λ xs. Completes (parties_asked g.L.Load.may_load g.L.Load.may_fail_load g.R.Resolve.may_resolve g.R.Resolve.may_fail_resolve c.args.self.now.library.loader c.args.self.now.library.resolver) settings (map entry_of xs) old new) c.as_slice.ensures.value c.in_ok-list.ensures.completes))
     (along c.deref_box-1.ensures.1 (λ v. IsRefusalOfEntries (parties_of may_load may_fail_load may_resolve may_fail_resolve ((goal.Hook-dyn g v).may_give v.1) ((goal.Hook-dyn g v).may_fail_hook v.1)) settings new (map entry_of c.args.entries.items) c.in_err-merged.field-0.0)
     (refusal_as may_load may_fail_load may_resolve may_fail_resolve _ _ new settings (map entry_of c.args.entries.items) c.in_err-merged.field-0.0
     (c.in_err-merged.ensures.refused c.in_ok-list.ensures.loaded
@@ -96,7 +94,7 @@ returns-in_err-finished_bundles-clause-headline g c =
     (handed_on c.from_residual-in_err-finished_bundles.result OutOfMemory (IsRefusedBy _ settings (map entry_of c.args.entries.items) old new) c.from_residual-in_err-finished_bundles.ensures.1
     (completed_stops _ settings (map entry_of c.args.entries.items) old new
     (completes_beside g.L.Load.may_load g.L.Load.may_fail_load g.R.Resolve.may_resolve g.R.Resolve.may_fail_resolve _ _ settings c.args.self.now.library.loader c.args.self.now.library.resolver (map entry_of c.args.entries.items) old new
-    (subst (λ xs. Completes (asked_by g.L.Load.may_load g.L.Load.may_fail_load g.R.Resolve.may_resolve g.R.Resolve.may_fail_resolve c.args.self.now.library.loader c.args.self.now.library.resolver) settings (map entry_of xs) old new) c.as_slice.ensures.value c.in_ok-list.ensures.completes))))
+    (subst (λ xs. Completes (parties_asked g.L.Load.may_load g.L.Load.may_fail_load g.R.Resolve.may_resolve g.R.Resolve.may_fail_resolve c.args.self.now.library.loader c.args.self.now.library.resolver) settings (map entry_of xs) old new) c.as_slice.ensures.value c.in_ok-list.ensures.completes))))
 
 -- Bundles.
 
@@ -112,7 +110,7 @@ returns-clause-headline g c =
     bundled_headline _ settings c.args.entries.items old new c.in_ok-finished_bundles.field-0.items
     (grows_along_entries _ settings c.as_slice.result.now c.args.entries.items old new c.as_slice.ensures.value c.in_ok-list.ensures.grows.grows)
     (completes_beside g.L.Load.may_load g.L.Load.may_fail_load g.R.Resolve.may_resolve g.R.Resolve.may_fail_resolve _ _ settings c.args.self.now.library.loader c.args.self.now.library.resolver (map entry_of c.args.entries.items) old new
-    (subst (λ xs. Completes (asked_by g.L.Load.may_load g.L.Load.may_fail_load g.R.Resolve.may_resolve g.R.Resolve.may_fail_resolve c.args.self.now.library.loader c.args.self.now.library.resolver) settings (map entry_of xs) old new) c.as_slice.ensures.value c.in_ok-list.ensures.completes))
+    (subst (λ xs. Completes (parties_asked g.L.Load.may_load g.L.Load.may_fail_load g.R.Resolve.may_resolve g.R.Resolve.may_fail_resolve c.args.self.now.library.loader c.args.self.now.library.resolver) settings (map entry_of xs) old new) c.as_slice.ensures.value c.in_ok-list.ensures.completes))
     (along c.deref_box-1.ensures.1 (λ v. AllZip (IsBundledFor (parties_of may_load may_fail_load may_resolve may_fail_resolve ((goal.Hook-dyn g v).may_give v.1) ((goal.Hook-dyn g v).may_fail_hook v.1)) settings new) c.args.entries.items c.in_ok-finished_bundles.field-0.items)
     (all_bundled_as may_load may_fail_load may_resolve may_fail_resolve _ _ settings new c.args.entries.items c.in_ok-finished_bundles.field-0.items
     (all_finished c.args.self.now.config _ new c.args.entries.items c.in_ok-merged.merged.items c.in_ok-finished_bundles.field-0.items (c.in_ok-merged.ensures.bundles c.in_ok-list.ensures.loaded

@@ -5,15 +5,13 @@ use Rattle.std.specs.List.{AllZip}
 use Rattle.bundler_entry.specs.Unlinked.{error_of}
 use Rattle.bundle_tree_names.specs.declared.error.Error.TheVariants.{OutOfMemory}
 use Rattle.bundle_rules.specs.Judging.{Completes}
-use Rattle.bundler_call.specs.Judged.{asked_by, IsBundledFor, IsToldOf}
+use Rattle.bundler_call.specs.Judged.{parties_asked, IsBundledFor, IsRefusalTold}
 use Rattle.bundler_call.specs.Kept.{entry_of, kept_of, parties_of, settings_of}
-use Rattle.bundler_call.specs.Linking.{IsLoaded, IsNumberedOn, IsRefusalOfEntries}
-use Rattle.bundler_call.specs.Loading.{files_on, AreSound}
-use Rattle.bundler_call.proofs.Bundling.{all_finished, along}
-use Rattle.bundler_call.proofs.Ending.{answers_none, bundled_headline, completed_stops, empty_headline, refused_headline, refused_linking, some_entry, IsRefusedBy}
-use Rattle.bundler_call.proofs.Finding.{handed_on}
-use Rattle.bundler_call.proofs.Handing.{grows_along_entries}
-use Rattle.bundler_call.proofs.Linking.{all_bundled_as, refusal_as}
+use Rattle.bundler_call.specs.Linking.{IsListLoaded, IsNumberedOn, IsRefusalOfEntries}
+use Rattle.bundler_call.specs.Loading.{files_on, AreFilesSound}
+use Rattle.bundler_call.proofs.Sources.{all_finished, along, grows_along_entries, all_bundled_as, refusal_as}
+use Rattle.bundler_call.proofs.Leading.{answers_none, bundled_headline, completed_stops, empty_headline, refused_headline, refused_linking, some_entry, IsRefusedBy}
+use Rattle.bundler_call.proofs.Growing.{handed_on}
 use Rattle.bundler_call.proofs.Unasked.{completes_beside, refused_beside}
 use Rattle.bundler_call.proofs.bundler.Bundler.into_bundles.Goals as goal
 
@@ -36,7 +34,7 @@ loaded-requires g c = some_entry c.args.entries.items c.as_slice.result.now _ _ 
 -- What was loaded is kept where the loader is let go of.
 
 pub merged_bundles-requires : goal.merged_bundles-requires
-merged_bundles-requires g c = subst (λ k. AreSound (kept_of k) (files_on c.in_ok-list.list)) (sym c.into_kept-kept.ensures) c.in_ok-list.ensures.sound
+merged_bundles-requires g c = subst (λ k. AreFilesSound (kept_of k) (files_on c.in_ok-list.list)) (sym c.into_kept-kept.ensures) c.in_ok-list.ensures.sound
 
 -- Refusals.
 
@@ -49,7 +47,7 @@ returns-in_err-list-clause-headline g c =
       refused_headline _ settings c.args.entries.items old new c.from_residual.result c.in_err-list.field-0.0 c.from_residual.ensures.1
           (grows_along_entries _ settings c.as_slice.result.now c.args.entries.items old new c.as_slice.ensures.value c.in_err-list.ensures.grows.grows)
           (refused_beside g.L.Load.may_load g.L.Load.may_fail_load g.R.Resolve.may_resolve g.R.Resolve.may_fail_resolve _ _ settings c.args.self.library.loader c.args.self.library.resolver c.from_residual.result c.in_err-list.field-0.0 c.from_residual.ensures.1 (map entry_of c.args.entries.items) old new
-          (subst (λ xs. IsToldOf (asked_by g.L.Load.may_load g.L.Load.may_fail_load g.R.Resolve.may_resolve g.R.Resolve.may_fail_resolve c.args.self.library.loader c.args.self.library.resolver) settings (map entry_of xs) old new c.in_err-list.field-0.0) c.as_slice.ensures.value c.in_err-list.ensures.refused)),
+          (subst (λ xs. IsRefusalTold (parties_asked g.L.Load.may_load g.L.Load.may_fail_load g.R.Resolve.may_resolve g.R.Resolve.may_fail_resolve c.args.self.library.loader c.args.self.library.resolver) settings (map entry_of xs) old new c.in_err-list.field-0.0) c.as_slice.ensures.value c.in_err-list.ensures.refused)),
     )
 
 pub returns-in_err-merged-clause-headline : goal.returns-in_err-merged-clause-headline
@@ -66,12 +64,12 @@ returns-in_err-merged-clause-headline g c =
           (grows_along_entries _ settings c.as_slice.result.now c.args.entries.items old new c.as_slice.ensures.value c.in_ok-list.ensures.grows.grows)
           (refused_linking _ settings _ (map entry_of c.args.entries.items) old new c.in_err-merged.field-0.0 c.from_residual-in_err-merged.ensures.1
           (completes_beside g.L.Load.may_load g.L.Load.may_fail_load g.R.Resolve.may_resolve g.R.Resolve.may_fail_resolve _ _ settings c.args.self.library.loader c.args.self.library.resolver (map entry_of c.args.entries.items) old new
-          (subst (λ xs. Completes (asked_by g.L.Load.may_load g.L.Load.may_fail_load g.R.Resolve.may_resolve g.R.Resolve.may_fail_resolve c.args.self.library.loader c.args.self.library.resolver) settings (map entry_of xs) old new) c.as_slice.ensures.value c.in_ok-list.ensures.completes))
+          (subst (λ xs. Completes (parties_asked g.L.Load.may_load g.L.Load.may_fail_load g.R.Resolve.may_resolve g.R.Resolve.may_fail_resolve c.args.self.library.loader c.args.self.library.resolver) settings (map entry_of xs) old new) c.as_slice.ensures.value c.in_ok-list.ensures.completes))
           (along c.into_kept-kept.ensures (λ k. IsRefusalOfEntries (parties_of may_load may_fail_load may_resolve may_fail_resolve ((goal.Hook-dyn g (c.args.self.hook.vtable, c.args.self.hook.value)).may_give c.args.self.hook.value) ((goal.Hook-dyn g (c.args.self.hook.vtable, c.args.self.hook.value)).may_fail_hook c.args.self.hook.value)) settings (kept_of k) (map entry_of c.args.entries.items) c.in_err-merged.field-0.0)
           (along c.deref_box-1.ensures.1 (λ v. IsRefusalOfEntries (parties_of may_load may_fail_load may_resolve may_fail_resolve ((goal.Hook-dyn g v).may_give v.1) ((goal.Hook-dyn g v).may_fail_hook v.1)) settings (kept_of c.into_kept-kept.result) (map entry_of c.args.entries.items) c.in_err-merged.field-0.0)
           (refusal_as may_load may_fail_load may_resolve may_fail_resolve _ _ (kept_of c.into_kept-kept.result) settings (map entry_of c.args.entries.items) c.in_err-merged.field-0.0
           (c.in_err-merged.ensures.refused
-          (subst (λ k. IsLoaded settings (kept_of k) c.in_ok-list.list) (sym c.into_kept-kept.ensures) c.in_ok-list.ensures.loaded)
+          (subst (λ k. IsListLoaded settings (kept_of k) c.in_ok-list.list) (sym c.into_kept-kept.ensures) c.in_ok-list.ensures.loaded)
           (subst (λ k. AllZip (IsNumberedOn (kept_of k) c.in_ok-list.list) c.args.entries.items c.in_ok-list.ids.items) (sym c.into_kept-kept.ensures) (subst (λ xs. AllZip (IsNumberedOn new c.in_ok-list.list) xs c.in_ok-list.ids.items) c.as_slice.ensures.value c.in_ok-list.ensures.numbered))))))),
     )
 
@@ -86,7 +84,7 @@ returns-in_err-finished_bundles-clause-headline g c =
           (handed_on c.from_residual-in_err-finished_bundles.result OutOfMemory (IsRefusedBy _ settings (map entry_of c.args.entries.items) old new) c.from_residual-in_err-finished_bundles.ensures.1
           (completed_stops _ settings (map entry_of c.args.entries.items) old new
           (completes_beside g.L.Load.may_load g.L.Load.may_fail_load g.R.Resolve.may_resolve g.R.Resolve.may_fail_resolve _ _ settings c.args.self.library.loader c.args.self.library.resolver (map entry_of c.args.entries.items) old new
-          (subst (λ xs. Completes (asked_by g.L.Load.may_load g.L.Load.may_fail_load g.R.Resolve.may_resolve g.R.Resolve.may_fail_resolve c.args.self.library.loader c.args.self.library.resolver) settings (map entry_of xs) old new) c.as_slice.ensures.value c.in_ok-list.ensures.completes)))),
+          (subst (λ xs. Completes (parties_asked g.L.Load.may_load g.L.Load.may_fail_load g.R.Resolve.may_resolve g.R.Resolve.may_fail_resolve c.args.self.library.loader c.args.self.library.resolver) settings (map entry_of xs) old new) c.as_slice.ensures.value c.in_ok-list.ensures.completes)))),
     )
 
 -- Bundles.
@@ -104,13 +102,13 @@ returns-clause-headline g c =
       bundled_headline _ settings c.args.entries.items old new c.in_ok-finished_bundles.field-0.items
           (grows_along_entries _ settings c.as_slice.result.now c.args.entries.items old new c.as_slice.ensures.value c.in_ok-list.ensures.grows.grows)
           (completes_beside g.L.Load.may_load g.L.Load.may_fail_load g.R.Resolve.may_resolve g.R.Resolve.may_fail_resolve _ _ settings c.args.self.library.loader c.args.self.library.resolver (map entry_of c.args.entries.items) old new
-          (subst (λ xs. Completes (asked_by g.L.Load.may_load g.L.Load.may_fail_load g.R.Resolve.may_resolve g.R.Resolve.may_fail_resolve c.args.self.library.loader c.args.self.library.resolver) settings (map entry_of xs) old new) c.as_slice.ensures.value c.in_ok-list.ensures.completes))
+          (subst (λ xs. Completes (parties_asked g.L.Load.may_load g.L.Load.may_fail_load g.R.Resolve.may_resolve g.R.Resolve.may_fail_resolve c.args.self.library.loader c.args.self.library.resolver) settings (map entry_of xs) old new) c.as_slice.ensures.value c.in_ok-list.ensures.completes))
           (along c.into_kept-kept.ensures (λ k. AllZip (IsBundledFor (parties_of may_load may_fail_load may_resolve may_fail_resolve ((goal.Hook-dyn g (c.args.self.hook.vtable, c.args.self.hook.value)).may_give c.args.self.hook.value) ((goal.Hook-dyn g (c.args.self.hook.vtable, c.args.self.hook.value)).may_fail_hook c.args.self.hook.value)) settings (kept_of k)) c.args.entries.items c.in_ok-finished_bundles.field-0.items)
           (along c.deref_box-1.ensures.1 (λ v. AllZip (IsBundledFor (parties_of may_load may_fail_load may_resolve may_fail_resolve ((goal.Hook-dyn g v).may_give v.1) ((goal.Hook-dyn g v).may_fail_hook v.1)) settings (kept_of c.into_kept-kept.result)) c.args.entries.items c.in_ok-finished_bundles.field-0.items)
           (all_bundled_as may_load may_fail_load may_resolve may_fail_resolve _ _ settings (kept_of c.into_kept-kept.result) c.args.entries.items c.in_ok-finished_bundles.field-0.items
           (all_finished c.args.self.config _ (kept_of c.into_kept-kept.result) c.args.entries.items c.in_ok-merged.merged.items c.in_ok-finished_bundles.field-0.items
           (c.in_ok-merged.ensures.bundles
-          (subst (λ k. IsLoaded settings (kept_of k) c.in_ok-list.list) (sym c.into_kept-kept.ensures) c.in_ok-list.ensures.loaded)
+          (subst (λ k. IsListLoaded settings (kept_of k) c.in_ok-list.list) (sym c.into_kept-kept.ensures) c.in_ok-list.ensures.loaded)
           (subst (λ k. AllZip (IsNumberedOn (kept_of k) c.in_ok-list.list) c.args.entries.items c.in_ok-list.ids.items) (sym c.into_kept-kept.ensures) (subst (λ xs. AllZip (IsNumberedOn new c.in_ok-list.list) xs c.in_ok-list.ids.items) c.as_slice.ensures.value c.in_ok-list.ensures.numbered)))
           c.in_ok-finished_bundles.ensures)))),
     )

@@ -1,7 +1,7 @@
 -- What a look-up among trees finds is kept.
 use Rattle.bundle_tree_names.specs.FileName.{name_of, name_eq}
-use Rattle.bundler_kept.specs.Kept.{trees_in}
-use Rattle.bundler_call.proofs.Finding.{kept_if, none_if, seen_same}
+use Rattle.bundler_call.specs.KeptFiles.{trees_in}
+use Rattle.bundler_call.proofs.Growing.{kept_if, none_if, seen_same}
 use Rattle.bundler_call.proofs.library.Library.has.Goals as goal
 
 pub returns : goal.returns

@@ -2,8 +2,7 @@
 use Rattle.std.proofs.Common.{refl, ap}
 use Rattle.bundle_tree_names.specs.FileName.{name_of}
 use Rattle.bundler_call.specs.Kept.{kept_of}
-use Rattle.bundler_call.proofs.Asking.{id_judged}
-use Rattle.bundler_call.proofs.Growing.{id_grows, id_stays, id_unchanged, kept_same, numbered_is_met, read_trees, unmet}
+use Rattle.bundler_call.proofs.Growing.{id_judged, id_grows, id_stays, id_unchanged, kept_same, numbered_is_met, read_trees, unmet}
 use Rattle.bundler_call.proofs.library.Library.id.Goals as goal
 
 pub returns-clause-met : goal.returns-clause-met

@@ -1,12 +1,11 @@
 -- The tree that was just kept is found, and what is kept has grown by it.
 use Rattle.std.proofs.Common.{Contains, refl, subst, sym}
 use Rattle.bundle_tree_names.specs.FileName.{name_of}
-use Rattle.bundler_kept.specs.Kept.{names_in, trees_in}
+use Rattle.bundler_call.specs.KeptFiles.{names_in, trees_in}
 use Rattle.bundler_call.specs.Kept.{kept_of, settings_of}
-use Rattle.bundler_call.proofs.Asking.{load_full, load_judged, load_kept}
-use Rattle.bundler_call.proofs.Finding.{tree_found}
-use Rattle.bundler_call.proofs.Growing.{has_room, holds_refused, is_full, load_grows, load_unchanged}
-use Rattle.bundler_call.proofs.Handing.{proceeds_along, proceeds_refl, stands_loaded, stands_refl}
+use Rattle.bundler_call.proofs.Growing.{load_full, load_judged, load_kept, tree_found, has_room, is_full, load_grows, load_unchanged}
+use Rattle.bundle_order_graph.proofs.NodeLemmas.{on_err as holds_refused}
+use Rattle.bundler_call.proofs.Sources.{proceeds_along, proceeds_refl, stands_loaded, stands_refl}
 use Rattle.bundler_call.proofs.library.Library.load.Goals as goal
 
 pub keep_loaded-requires-clause-met : goal.keep_loaded-requires-clause-met

@@ -1,11 +1,10 @@
 -- The file that was just kept for a request is found, and what is kept has grown by it.
 use Rattle.std.proofs.Common.{refl, subst, sym}
 use Rattle.bundle_tree_names.specs.FileName.{name_eq, name_of}
-use Rattle.bundler_kept.specs.Kept.{asked_of, trees_in, HasRoomFor}
+use Rattle.bundler_call.specs.KeptFiles.{asked_of, trees_in, HasRoomFor}
 use Rattle.bundler_call.specs.Kept.{kept_of}
-use Rattle.bundler_call.proofs.Asking.{resolve_failed, resolve_judged, resolve_kept}
-use Rattle.bundler_call.proofs.Finding.{asked_same, handed, target_found}
-use Rattle.bundler_call.proofs.Growing.{advances_along, advances_refl, holds_refused, remains_along, remains_refl, resolve_grows, resolve_stays, resolve_unchanged}
+use Rattle.bundler_call.proofs.Growing.{resolve_failed, resolve_judged, resolve_kept, asked_same, handed, target_found, advances_along, advances_refl, remains_along, remains_refl, resolve_grows, resolve_stays, resolve_unchanged}
+use Rattle.bundle_order_graph.proofs.NodeLemmas.{on_err as holds_refused}
 use Rattle.bundler_call.proofs.library.Library.resolve.Goals as goal
 
 pub reserve_target-requires : goal.reserve_target-requires

@@ -1,9 +1,8 @@
 -- A file that is put on the list goes last, with its number.
 use Rattle.std.proofs.Common.{ap, inl, refl, sym, ◌∙◌}
 use Rattle.bundle_tree_names.specs.FileName.{name_of}
-use Rattle.bundler_call.proofs.Growing.{holds_refused}
-use Rattle.bundler_call.proofs.Leading.{listed, not_listed, placed_last, placed_numbered}
-use Rattle.bundler_call.proofs.Loading.{names_of_entries}
+use Rattle.bundle_order_graph.proofs.NodeLemmas.{on_err as holds_refused}
+use Rattle.bundler_call.proofs.Leading.{listed, not_listed, placed_last, placed_numbered, names_of_entries}
 use Rattle.bundler_call.proofs.load.LoadList.place.Goals as goal
 
 pub returns-then-has-clause-placed : goal.returns-then-has-clause-placed

@@ -3,7 +3,7 @@ use Rattle.std.proofs.Common.{◌≡◌, true, false, cond, not, [], ◌∷◌, 
 use Rattle.std.specs.List.{list_any}
 use Rattle.std.specs.BTreeMap.{get, is_at}
 use Rattle.std.proofs.lemmas.Map.Keys.{IsDistinct-push}
-use Rattle.bundle_scope_denote.specs.texts.Placed.{ArePlaced, IsPut}
+use Rattle.bundle_scope_denote.specs.texts.Placed.{ArePlaced, IsKeyPut}
 use Rattle.bundle_scope_denote.specs.texts.Seen.{set_of}
 use Rattle.bundle_scope_denote.proofs.TextInsertLemmas.{set-updates}
 use Rattle.bundle_scope_denote.proofs.TextPlaceLemmas.{is_some-position, or_len-none, or_len-there, placed-more, stored-at, stored-last}
@@ -78,7 +78,7 @@ invariant_of-self-in-None g c =
     let at : position (eq key) keys ≡ None = sym (c.self.invariant.found key) ∙ sym c.in_ok-own.ensures.own ∙ c.in-None.is in
     let none : list_any (eq key) keys ≡ false = sym (is_some-position (eq key) keys) ∙ ap is_some at in
     let place : c.len-place.result ≡ length keys = c.len-place.ensures ∙ c.reserve.new.self.ok.0 ∙ ap length c.reserve.ensures.items in
-    let put : IsPut cmp old new key c.len-place.result None = subst (λ o. IsPut cmp old new key c.len-place.result o) c.in-None.is c.in_ok-own.ensures.places in
+    let put : IsKeyPut cmp old new key c.len-place.result None = subst (λ o. IsKeyPut cmp old new key c.len-place.result o) c.in-None.is c.in_ok-own.ensures.places in
     let more : ArePlaced cmp eq (keys ++ key ∷ []) new =
     placed-more cmp eq g.met.K.Eq.laws g.met.K.Ord.matches_eq keys key old new c.self.invariant none
     (λ q. put q ∙ ap (λ n. cond (is_at (cmp key) q) (Some n) (get cmp old q)) place) in

@@ -1,0 +1,9 @@
+use Rattle.std.proofs.Common.{refl}
+use Rattle.bundle_json_form.specs.Plain.{seen}
+use Rattle.bundle_json_document.proofs.Turns.{with_entries}
+use Rattle.bundle_json_document.proofs.stream.DocumentParts.read_entries.Goals as goal
+
+pub returns-clause-ok : goal.returns-clause-ok
+returns-clause-ok c =
+    let d = seen c.in_ok-value.value in
+    (d, c.in_ok-value.ensures.ok, λ ms are. with_entries d ms _ _ are refl refl refl (rw c.replace.ensures.after c.in_ok-entries.ensures.ok))

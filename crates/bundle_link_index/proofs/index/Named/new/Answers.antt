@@ -1,8 +1,0 @@
-use Rattle.bundle_link_index.specs.Numbered.{names_of, values_of}
-use Rattle.bundle_link_index.proofs.ProgramLemmas.{is_graph_of}
-use Rattle.bundle_link_index.proofs.index.Named.new.Goals as goal
-
-pub returns : goal.returns
-returns c = λ p w.
-    let numbers = c.search_of.new.numbers in
-    is_graph_of p c.args.kinds.now w (names_of numbers) (values_of numbers) c.in_ok-search.search (c.in_ok-search.ensures c.new-numbers.ensures)

@@ -1,6 +1,0 @@
-use Rattle.std.proofs.Common.{◌≡◌}
-use Rattle.bundle_link_reached.specs.Judged.{numbers_below}
-use Rattle.bundle_link_reached.proofs.judging.numbers_to.Given as goal
-
-abbrev pub invariant-loop-number : goal.invariant-loop-number
-invariant-loop-number l = l.numbers.items ≡ numbers_below l.number

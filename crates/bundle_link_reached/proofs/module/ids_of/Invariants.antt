@@ -1,7 +1,0 @@
-use Rattle.std.proofs.Common.{◌≡◌, take}
-use Rattle.bundle_rules.specs.Nodes.{numbers_once}
-use Rattle.bundle_link_reached.specs.Numbered.{numbers}
-use Rattle.bundle_link_reached.proofs.module.ids_of.Given as goal
-
-abbrev pub invariant-loop-module : goal.invariant-loop-module
-invariant-loop-module l = l.ids.keys ≡ numbers_once (numbers (take l.module-index l.modules))

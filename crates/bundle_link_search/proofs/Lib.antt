@@ -1,5 +1,0 @@
-pub mod AnswerLemmas
-pub mod SearchLemmas
-pub mod FarLemmas
-pub mod ReachLemmas
-pub mod LineLemmas

@@ -1,4 +1,0 @@
-pub mod Graph
-pub mod Answers
-pub mod Given
-pub mod Reached

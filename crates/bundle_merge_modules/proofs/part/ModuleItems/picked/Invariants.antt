@@ -1,0 +1,10 @@
+use Rattle.std.proofs.Common.{[]}
+use Rattle.std.specs.Prelude.{map}
+use Rattle.bundle_merge_modules.specs.Groups.{IsMapped, ItemsPicked, owned}
+use Rattle.bundle_merge_modules.specs.Calls.{PicksOf, RefusesPickOf, group_items, groups_of}
+use Rattle.bundle_merge_modules.proofs.part.ModuleItems.picked.Given as goal
+
+abbrev pub invariant-loop-id : goal.invariant-loop-id
+invariant-loop-id g l =
+    ((to : _) → IsMapped (ItemsPicked (PicksOf (goal.F-post g l.f))) (groups_of l.mapped) (map group_items l.id-iterator) to → IsMapped (ItemsPicked (PicksOf (goal.F-post g l.f))) [] (groups_of l.self) to)
+    × ((refusal : _) → RefusesPickOf (goal.F-post g l.f) refusal (owned (map group_items l.id-iterator)) → RefusesPickOf (goal.F-post g l.f) refusal (owned (groups_of l.self)))

@@ -1,9 +1,0 @@
--- No module before is CommonJS.
-use Rattle.std.proofs.Common.{◌<◌, ℕ}
-use Rattle.bundle_rules.specs.Linking.{IsCommonJs}
-use Rattle.bundle_rules.specs.Program.{Program}
-use Rattle.bundle_link_targets.specs.Linked.{IsLinkingOf}
-use Rattle.bundle_merge_names.proofs.part.BundleParts.has_common_js.Given as goal
-
-abbrev pub invariant-loop-module : goal.invariant-loop-module
-invariant-loop-module l = (p : Program) → IsLinkingOf p l.self.linking.now → (k : ℕ) → k < l.«module» → IsCommonJs p k → ⊥

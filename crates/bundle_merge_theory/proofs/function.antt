@@ -1,0 +1,9 @@
+pub mod Strange
+pub mod Fine
+pub mod Calls
+pub mod Parts
+pub mod Given
+pub mod Statement
+pub mod Front
+pub mod Naming
+pub mod Theorem

@@ -1,0 +1,12 @@
+pub mod AlikeLemmas
+pub mod FlagLemmas
+pub mod WholeLemmas
+pub mod EditLemmas
+pub mod NameLemmas
+pub mod TopLemmas
+pub mod PlacedLemmas
+pub mod FormLemmas
+pub mod PairLemmas
+pub mod ClearedLemmas
+pub mod Examples
+pub mod Theorem

@@ -1,0 +1,16 @@
+pub mod Spots
+pub mod Shapes
+pub mod Names
+pub mod Replaces
+pub mod Inner
+pub mod Properties
+pub mod Bridge
+pub mod Statements
+pub mod UsesAgree
+pub mod StaticReads
+pub mod ListFacts
+pub mod NodePaths
+pub mod Agreements
+pub mod Listing
+pub mod Theorem
+pub mod Examples

@@ -1,0 +1,14 @@
+pub mod Slots
+pub mod Fit
+pub mod Pairs
+pub mod Walking
+pub mod Ranged
+pub mod Like
+pub mod Stated
+pub mod Alongside
+pub mod Tree
+pub mod Naming
+pub mod Elements
+pub mod Holders
+pub mod Setting
+pub mod Theorem

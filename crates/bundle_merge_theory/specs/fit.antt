@@ -1,0 +1,2 @@
+-- Programs whose modules are lists of the form of trees.
+pub mod Programs

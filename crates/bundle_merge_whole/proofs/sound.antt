@@ -1,9 +1,0 @@
--- That the program of a bundle is sound, and what linking finds of it is decided.
-pub mod Listing
-pub mod Requests
-pub mod Sound
-pub mod Found
-pub mod Blocks
-pub mod Decided
-pub mod Noted
-pub mod Same

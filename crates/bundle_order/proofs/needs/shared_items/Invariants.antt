@@ -1,0 +1,11 @@
+-- The items so far belong where those passed do, and depend on what was found.
+use Rattle.std.proofs.Common.{◌≡◌, map, take}
+use Rattle.bundle_order.specs.Cut.{references_of}
+use Rattle.bundle_order.specs.Owners.{range_owner, shared_owner_of}
+use Rattle.bundle_order.proofs.needs.shared_items.Given as goal
+
+abbrev pub invariant-loop-number : goal.invariant-loop-number
+invariant-loop-number l = record {
+  owners : map shared_owner_of l.shared.items ≡ map range_owner (take l.number l.items);
+  found : map references_of l.shared.items ≡ map (λ v. v.items) (take l.number l.found);
+}

@@ -1,0 +1,2 @@
+-- The word that is read is compared.
+use Rattle.std.proofs.Common.{}

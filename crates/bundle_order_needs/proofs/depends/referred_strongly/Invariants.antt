@@ -1,7 +1,0 @@
-use Rattle.std.proofs.Common.{◌≡◌, map, take}
-use Rattle.std.specs.List.{filter}
-use Rattle.bundle_order_needs.specs.Providing.{item_and_binding, refers_strongly}
-use Rattle.bundle_order_needs.proofs.depends.referred_strongly.Given as goal
-
-abbrev pub invariant-loop-one : goal.invariant-loop-one
-invariant-loop-one l = l.pairs.items ≡ map item_and_binding (filter (refers_strongly l.owners) (take l.one-index l.seen))

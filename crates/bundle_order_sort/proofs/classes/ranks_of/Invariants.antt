@@ -1,6 +1,0 @@
-use Rattle.std.proofs.Common.{◌-◌, [], map, length}
-use Rattle.bundle_order_sort.specs.Classes.{Ranking}
-use Rattle.bundle_order_sort.proofs.classes.ranks_of.Given as goal
-
-abbrev pub invariant-loop-done : goal.invariant-loop-done
-invariant-loop-done l = Ranking (map (λ v. v.items) l.edges) l.listed.items (length l.listed.items - l.done) l.ranks.items []

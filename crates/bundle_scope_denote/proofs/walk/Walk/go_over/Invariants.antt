@@ -1,8 +1,0 @@
--- What stands before the place was met.
-use Rattle.std.proofs.Common.{map}
-use Rattle.bundle_tree_piece.specs.Item.{item_of}
-use Rattle.bundle_scope_denote.specs.Steps.{IsWalkAt, IsTidyAt, Stays}
-use Rattle.bundle_scope_denote.proofs.walk.Walk.go_over.Given as goal
-
-abbrev pub invariant-loop-place : goal.invariant-loop-place
-invariant-loop-place l = record { is_at : IsWalkAt l.self (map item_of l.pieces) l.place; tidy : IsTidyAt l.self l.place; stays : Stays l.fn.self l.self }

@@ -1,2 +1,0 @@
-pub mod Undoubled
-pub mod fit

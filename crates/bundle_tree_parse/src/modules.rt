@@ -1,0 +1,464 @@
+//! Modules, imports and exports (ECMA-262, 16.2).
+
+ghost use Rattle.std.specs.Prelude.{◌+◌, ◌-◌, ◌^◌, ◌<◌, ◌≤◌, ◌≡◌, ◌∷◌, ◌++◌, ℕ, List, Some, None, IfOk, IfErr, length, zero};
+ghost use Rattle.std.specs.List.{flat_map};
+ghost use Rattle.bundle_syntax.specs.Item.{item_of, head_of, Item, Open, Close, NamedExport};
+ghost use Rattle.bundle_tree_parse.specs.declared.build.BuildError.TheVariants.{Form};
+ghost use Rattle.bundle_tree_listed.specs.Tree.{default_decl_items, export_specifier_items, import_specifier_items, module_decl_items, module_export_name_items, module_item_items, module_items, option_items};
+ghost use Rattle.bundle_tree_parse.specs.Sorts.{AModule, AnItem, AModuleDecl, AnImport, AnExport, AModuleName, ADefault, Exports, holds};
+ghost use Rattle.bundle_tree_parse.specs.Parse.{after_maybe, after_each, after_inside, taken};
+ghost use Rattle.bundle_tree_parse.specs.Parse as parse;
+
+use crate::build::{BuildError, Builder, inside};
+use bundle_syntax::{Node, Piece, Role};
+use bundle_tree_ast::{
+    DefaultDecl, ExportMetadata, ExportSpecifier, ImportSpecifier, Module, ModuleDecl,
+    ModuleExportName, ModuleItem,
+};
+
+impl<'p, 'a> Builder<'p, 'a> {
+    #[tactic(auto, using(crate::proofs::Parsing::building))]
+    pub(crate) fn module(&mut self, room: usize) -> Result<Module, BuildError>
+        ensures taken { IfOk result (λ made. taken room AModule 0 self.old ≡ Some self.new) }
+        ensures made { IfOk result (λ made. self.old ≡ module_items 0 made ++ self.new) }
+        ensures refused { IfErr result (λ why. why ≡ Form → taken room AModule 0 self.old ≡ None) }
+    {
+        let node = self.open(0)?;
+        let less = inside(room)?;
+        let it = self.module_of(less, node)?;
+        self.close()?;
+        Ok(it)
+    }
+
+    #[tactic(auto, using(crate::proofs::Parsing::building))]
+    fn module_of(&mut self, room: usize, node: Node<'a>) -> Result<Module, BuildError>
+        ensures taken { IfOk result (λ made.
+            after_inside (taken room) (holds AModule (head_of node.entry)) self.old ≡ Some self.new) }
+        ensures made { IfOk result (λ made. (field : ℕ) (rest : List Item) →
+            self.new ≡ Close ∷ rest → Open field (head_of node.entry) ∷ self.old ≡ module_items field made ++ rest) }
+        ensures refused { IfErr result (λ why.
+            why ≡ Form → after_inside (taken room) (holds AModule (head_of node.entry)) self.old ≡ None) }
+    {
+        match node {
+            Node::Module => {
+                let body = self.each_module_item(room, 0)?;
+                Ok(Module { body })
+            }
+            _ => Err(BuildError::Form),
+        }
+    }
+
+    #[tactic(auto, using(crate::proofs::Parsing::building))]
+    fn each_module_item(&mut self, room: usize, field: u8) -> Result<Vec<ModuleItem>, BuildError>
+        ensures taken { IfOk result (λ made.
+            after_each (taken room AnItem field) field (length self.old) self.old ≡ Some self.new) }
+        ensures made { IfOk result (λ made.
+            self.old ≡ flat_map (module_item_items field) made.items ++ self.new) }
+        ensures refused { IfErr result (λ why.
+            why ≡ Form → after_each (taken room AnItem field) field (length self.old) self.old ≡ None) }
+    {
+        let mut list = Vec::new(self.alloc);
+        let most = self.most();
+        for count in 0..most {
+            if !self.is_in(field) {
+                break;
+            }
+            let it = self.module_item(room, field)?;
+            list.push(it)?;
+        }
+        list.shrink_to_fit();
+        Ok(list)
+    }
+
+    #[tactic(auto, using(crate::proofs::Parsing::building))]
+    fn module_item(&mut self, room: usize, field: u8) -> Result<ModuleItem, BuildError>
+        ensures taken { IfOk result (λ made. taken room AnItem field self.old ≡ Some self.new) }
+        ensures made { IfOk result (λ made. self.old ≡ module_item_items field made ++ self.new) }
+        ensures refused { IfErr result (λ why.
+            why ≡ Form → taken room AnItem field self.old ≡ None) }
+    {
+        let node = self.open(field)?;
+        let less = inside(room)?;
+        let it = self.module_item_of(less, node)?;
+        self.close()?;
+        Ok(it)
+    }
+
+    #[tactic(auto, using(crate::proofs::Parsing::building))]
+    fn module_item_of(&mut self, room: usize, node: Node<'a>) -> Result<ModuleItem, BuildError>
+        ensures taken { IfOk result (λ made.
+            after_inside (taken room) (holds AnItem (head_of node.entry)) self.old ≡ Some self.new) }
+        ensures made { IfOk result (λ made. (field : ℕ) (rest : List Item) →
+            self.new ≡ Close ∷ rest → Open field (head_of node.entry) ∷ self.old ≡ module_item_items field made ++ rest) }
+        ensures refused { IfErr result (λ why.
+            why ≡ Form → after_inside (taken room) (holds AnItem (head_of node.entry)) self.old ≡ None) }
+    {
+        match node {
+            Node::ImportDecl { .. }
+            | Node::ExportDecl
+            | Node::NamedExport { .. }
+            | Node::ExportDefaultDecl
+            | Node::ExportDefaultExpr
+            | Node::ExportAll { .. } => Ok(ModuleItem::ModuleDecl(self.module_decl_of(
+                room, node,
+            )?)),
+            _ => Ok(ModuleItem::Stmt(self.stmt_of(room, node)?)),
+        }
+    }
+
+    #[tactic(auto, using(crate::proofs::Parsing::building))]
+    fn module_decl_of(&mut self, room: usize, node: Node<'a>) -> Result<ModuleDecl, BuildError>
+        ensures taken { IfOk result (λ made.
+            after_inside (taken room) (holds AModuleDecl (head_of node.entry)) self.old ≡ Some self.new) }
+        ensures made { IfOk result (λ made. (field : ℕ) (rest : List Item) →
+            self.new ≡ Close ∷ rest → Open field (head_of node.entry) ∷ self.old ≡ module_decl_items field made ++ rest) }
+        ensures refused { IfErr result (λ why.
+            why ≡ Form → after_inside (taken room) (holds AModuleDecl (head_of node.entry)) self.old ≡ None) }
+    {
+        match node {
+            Node::ImportDecl { meta } => {
+                let specifiers = self.each_import_specifier(room, 0)?;
+                let src = self.str(room, 1)?;
+                Ok(ModuleDecl::ImportDecl {
+                    specifiers,
+                    src,
+                    meta: *meta,
+                })
+            }
+            Node::NamedExport { meta } => self.named_export(room, *meta),
+            Node::ExportAll { meta } => {
+                let src = self.str(room, 0)?;
+                Ok(ModuleDecl::ExportAll { src, meta: *meta })
+            }
+            Node::ExportDecl => {
+                let decl = self.decl(room, 0)?;
+                Ok(ModuleDecl::ExportDecl { decl })
+            }
+            Node::ExportDefaultDecl => {
+                let decl = self.default_decl(room, 0)?;
+                Ok(ModuleDecl::ExportDefaultDecl { decl })
+            }
+            Node::ExportDefaultExpr => {
+                let expr = self.expr(room, 0)?;
+                Ok(ModuleDecl::ExportDefaultExpr { expr })
+            }
+            _ => Err(BuildError::Form),
+        }
+    }
+
+    #[tactic(auto, using(crate::proofs::Parsing::building))]
+    fn each_import_specifier(
+        &mut self,
+        room: usize,
+        field: u8,
+    ) -> Result<Vec<ImportSpecifier>, BuildError>
+        ensures taken { IfOk result (λ made.
+            after_each (taken room AnImport field) field (length self.old) self.old ≡ Some self.new) }
+        ensures made { IfOk result (λ made.
+            self.old ≡ flat_map (import_specifier_items field) made.items ++ self.new) }
+        ensures refused { IfErr result (λ why.
+            why ≡ Form → after_each (taken room AnImport field) field (length self.old) self.old ≡ None) }
+    {
+        let mut list = Vec::new(self.alloc);
+        let most = self.most();
+        for count in 0..most {
+            if !self.is_in(field) {
+                break;
+            }
+            let it = self.import_specifier(room, field)?;
+            list.push(it)?;
+        }
+        list.shrink_to_fit();
+        Ok(list)
+    }
+
+    #[tactic(auto, using(crate::proofs::Parsing::building))]
+    fn import_specifier(&mut self, room: usize, field: u8) -> Result<ImportSpecifier, BuildError>
+        ensures taken { IfOk result (λ made. taken room AnImport field self.old ≡ Some self.new) }
+        ensures made { IfOk result (λ made.
+            self.old ≡ import_specifier_items field made ++ self.new) }
+        ensures refused { IfErr result (λ why.
+            why ≡ Form → taken room AnImport field self.old ≡ None) }
+    {
+        let node = self.open(field)?;
+        let less = inside(room)?;
+        let it = self.import_specifier_of(less, node)?;
+        self.close()?;
+        Ok(it)
+    }
+
+    #[tactic(auto, using(crate::proofs::Parsing::building))]
+    fn import_specifier_of(
+        &mut self,
+        room: usize,
+        node: Node<'a>,
+    ) -> Result<ImportSpecifier, BuildError>
+        ensures taken { IfOk result (λ made.
+            after_inside (taken room) (holds AnImport (head_of node.entry)) self.old ≡ Some self.new) }
+        ensures made { IfOk result (λ made. (field : ℕ) (rest : List Item) →
+            self.new ≡ Close ∷ rest → Open field (head_of node.entry) ∷ self.old ≡ import_specifier_items field made ++ rest) }
+        ensures refused { IfErr result (λ why.
+            why ≡ Form → after_inside (taken room) (holds AnImport (head_of node.entry)) self.old ≡ None) }
+    {
+        match node {
+            Node::ImportNamedSpecifier => {
+                let local = self.ident(0, Role::Binding)?;
+                let imported = self.option_module_export_name(room, 1, Role::Word)?;
+                Ok(ImportSpecifier::ImportNamedSpecifier { local, imported })
+            }
+            Node::ImportDefaultSpecifier => {
+                let local = self.ident(0, Role::Binding)?;
+                Ok(ImportSpecifier::ImportDefaultSpecifier { local })
+            }
+            Node::ImportStarAsSpecifier => {
+                let local = self.ident(0, Role::Binding)?;
+                Ok(ImportSpecifier::ImportStarAsSpecifier { local })
+            }
+            _ => Err(BuildError::Form),
+        }
+    }
+
+    // The names are words of another module where there is a source, which comes after them.
+    #[tactic(auto, using(crate::proofs::Parsing::building))]
+    fn named_export(&mut self, room: usize, meta: ExportMetadata) -> Result<ModuleDecl, BuildError>
+        ensures taken { IfOk result (λ made.
+            after_inside (taken room) Exports self.old ≡ Some self.new) }
+        ensures made { IfOk result (λ made. (field : ℕ) (rest : List Item) →
+            self.new ≡ Close ∷ rest → Open field (NamedExport meta) ∷ self.old ≡ module_decl_items field made ++ rest) }
+        ensures refused { IfErr result (λ why.
+            why ≡ Form → after_inside (taken room) Exports self.old ≡ None) }
+    {
+        if self.has_source() {
+            let specifiers = self.each_export_specifier(room, 0, Role::Word)?;
+            let src = self.str(room, 1)?;
+            Ok(ModuleDecl::NamedExport {
+                specifiers,
+                src: Some(src),
+                meta,
+            })
+        } else {
+            let specifiers = self.each_export_specifier(room, 0, Role::Reference)?;
+            Ok(ModuleDecl::NamedExport {
+                specifiers,
+                src: None,
+                meta,
+            })
+        }
+    }
+
+    // Whether the export list that is open has a source.
+    #[tactic(auto, using(crate::proofs::Parsing::building))]
+    fn has_source(&self) -> bool
+        ensures { result ≡ parse.has_source zero self.now }
+    {
+        let pieces = self.pieces;
+        let mut depth: usize = 0;
+        for place in 0..pieces.len() {
+            let piece = pieces[place];
+            if is_source(depth, piece) {
+                return true;
+            }
+            if is_end(depth, piece) {
+                return false;
+            }
+            depth = depth_behind(depth, piece);
+        }
+        false
+    }
+
+    #[tactic(auto, using(crate::proofs::Parsing::building))]
+    fn each_export_specifier(
+        &mut self,
+        room: usize,
+        field: u8,
+        role: Role,
+    ) -> Result<Vec<ExportSpecifier>, BuildError>
+        ensures taken { IfOk result (λ made.
+            after_each (taken room (AnExport role) field) field (length self.old) self.old ≡ Some self.new) }
+        ensures made { IfOk result (λ made.
+            self.old ≡ flat_map (export_specifier_items role field) made.items ++ self.new) }
+        ensures refused { IfErr result (λ why.
+            why ≡ Form → after_each (taken room (AnExport role) field) field (length self.old) self.old ≡ None) }
+    {
+        let mut list = Vec::new(self.alloc);
+        let most = self.most();
+        for count in 0..most {
+            if !self.is_in(field) {
+                break;
+            }
+            let it = self.export_specifier(room, field, role)?;
+            list.push(it)?;
+        }
+        list.shrink_to_fit();
+        Ok(list)
+    }
+
+    #[tactic(auto, using(crate::proofs::Parsing::building))]
+    fn export_specifier(
+        &mut self,
+        room: usize,
+        field: u8,
+        role: Role,
+    ) -> Result<ExportSpecifier, BuildError>
+        ensures taken { IfOk result (λ made.
+            taken room (AnExport role) field self.old ≡ Some self.new) }
+        ensures made { IfOk result (λ made.
+            self.old ≡ export_specifier_items role field made ++ self.new) }
+        ensures refused { IfErr result (λ why.
+            why ≡ Form → taken room (AnExport role) field self.old ≡ None) }
+    {
+        let node = self.open(field)?;
+        let less = inside(room)?;
+        let it = self.export_specifier_of(less, node, role)?;
+        self.close()?;
+        Ok(it)
+    }
+
+    #[tactic(auto, using(crate::proofs::Parsing::building))]
+    fn export_specifier_of(
+        &mut self,
+        room: usize,
+        node: Node<'a>,
+        role: Role,
+    ) -> Result<ExportSpecifier, BuildError>
+        ensures taken { IfOk result (λ made.
+            after_inside (taken room) (holds (AnExport role) (head_of node.entry)) self.old ≡ Some self.new) }
+        ensures made { IfOk result (λ made. (field : ℕ) (rest : List Item) →
+            self.new ≡ Close ∷ rest → Open field (head_of node.entry) ∷ self.old ≡ export_specifier_items role field made ++ rest) }
+        ensures refused { IfErr result (λ why.
+            why ≡ Form → after_inside (taken room) (holds (AnExport role) (head_of node.entry)) self.old ≡ None) }
+    {
+        match node {
+            Node::ExportNamespaceSpecifier => {
+                let name = self.module_export_name(room, 0, Role::Word)?;
+                Ok(ExportSpecifier::ExportNamespaceSpecifier { name })
+            }
+            Node::ExportNamedSpecifier => {
+                let orig = self.module_export_name(room, 0, role)?;
+                let exported = self.option_module_export_name(room, 1, Role::Word)?;
+                Ok(ExportSpecifier::ExportNamedSpecifier { orig, exported })
+            }
+            _ => Err(BuildError::Form),
+        }
+    }
+
+    #[tactic(auto, using(crate::proofs::Parsing::building))]
+    fn module_export_name(
+        &mut self,
+        room: usize,
+        field: u8,
+        role: Role,
+    ) -> Result<ModuleExportName, BuildError>
+        ensures taken { IfOk result (λ made.
+            taken room (AModuleName role) field self.old ≡ Some self.new) }
+        ensures made { IfOk result (λ made.
+            self.old ≡ module_export_name_items role field made ++ self.new) }
+        ensures refused { IfErr result (λ why.
+            why ≡ Form → taken room (AModuleName role) field self.old ≡ None) }
+    {
+        if self.is_ident() {
+            return Ok(ModuleExportName::Ident(self.ident(field, role)?));
+        }
+        let node = self.open(field)?;
+        let _ = inside(room)?;
+        let it = self.str_of(node)?;
+        self.close()?;
+        Ok(ModuleExportName::Str(it))
+    }
+
+    #[tactic(auto, using(crate::proofs::Parsing::building))]
+    fn option_module_export_name(
+        &mut self,
+        room: usize,
+        field: u8,
+        role: Role,
+    ) -> Result<Option<ModuleExportName>, BuildError>
+        ensures taken { IfOk result (λ made.
+            after_maybe (taken room (AModuleName role) field) field self.old ≡ Some self.new) }
+        ensures made { IfOk result (λ made.
+            self.old ≡ option_items (module_export_name_items role field) made ++ self.new) }
+        ensures refused { IfErr result (λ why.
+            why ≡ Form → after_maybe (taken room (AModuleName role) field) field self.old ≡ None) }
+    {
+        if self.is_in(field) {
+            Ok(Some(self.module_export_name(room, field, role)?))
+        } else {
+            Ok(None)
+        }
+    }
+
+    #[tactic(auto, using(crate::proofs::Parsing::building))]
+    fn default_decl(&mut self, room: usize, field: u8) -> Result<DefaultDecl, BuildError>
+        ensures taken { IfOk result (λ made. taken room ADefault field self.old ≡ Some self.new) }
+        ensures made { IfOk result (λ made. self.old ≡ default_decl_items field made ++ self.new) }
+        ensures refused { IfErr result (λ why.
+            why ≡ Form → taken room ADefault field self.old ≡ None) }
+    {
+        let node = self.open(field)?;
+        let less = inside(room)?;
+        let it = self.default_decl_of(less, node)?;
+        self.close()?;
+        Ok(it)
+    }
+
+    #[tactic(auto, using(crate::proofs::Parsing::building))]
+    fn default_decl_of(&mut self, room: usize, node: Node<'a>) -> Result<DefaultDecl, BuildError>
+        ensures taken { IfOk result (λ made.
+            after_inside (taken room) (holds ADefault (head_of node.entry)) self.old ≡ Some self.new) }
+        ensures made { IfOk result (λ made. (field : ℕ) (rest : List Item) →
+            self.new ≡ Close ∷ rest → Open field (head_of node.entry) ∷ self.old ≡ default_decl_items field made ++ rest) }
+        ensures refused { IfErr result (λ why.
+            why ≡ Form → after_inside (taken room) (holds ADefault (head_of node.entry)) self.old ≡ None) }
+    {
+        match node {
+            Node::ClassExpr => {
+                let ident = self.option_ident(0, Role::Binding)?;
+                let class = self.class(room, 1)?;
+                Ok(DefaultDecl::ClassExpr { ident, class })
+            }
+            Node::FnExpr => {
+                let ident = self.option_ident(0, Role::Binding)?;
+                let function = self.function(room, 1)?;
+                Ok(DefaultDecl::FnExpr { ident, function })
+            }
+            _ => Err(BuildError::Form),
+        }
+    }
+}
+
+// Whether the source of an export list begins here, so many nodes deep in it.
+#[tactic(auto, using(crate::proofs::Parsing::parsing))]
+fn is_source(depth: usize, piece: Piece) -> bool
+    ensures { result ≡ parse.is_source depth (item_of piece.entry) }
+{
+    match piece {
+        Piece::Open { field, .. } => depth == 0 && field == 1,
+        _ => false,
+    }
+}
+
+// Whether the node around ends here, so many nodes deep in it.
+#[tactic(auto, using(crate::proofs::Parsing::parsing))]
+fn is_end(depth: usize, piece: Piece) -> bool
+    ensures { result ≡ parse.is_end depth (item_of piece.entry) }
+{
+    match piece {
+        Piece::Close => depth == 0,
+        _ => false,
+    }
+}
+
+// How many nodes deep what follows is.
+#[tactic(auto, using(crate::proofs::Parsing::parsing))]
+fn depth_behind(depth: usize, piece: Piece) -> usize
+    requires { depth < 2 ^ 64 - 1 }
+    ensures behind { result ≡ parse.depth_behind depth (item_of piece.entry) }
+    ensures bound { result ≤ depth + 1 }
+{
+    match piece {
+        Piece::Open { .. } => depth + 1,
+        Piece::Close if depth == 0 => 0,
+        Piece::Close => depth - 1,
+        _ => depth,
+    }
+}

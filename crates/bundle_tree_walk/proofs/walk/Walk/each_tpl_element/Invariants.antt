@@ -1,8 +1,0 @@
--- The elements so far are listed.
-use Rattle.std.proofs.Common.{◌≡◌, ◌++◌, take}
-use Rattle.std.specs.List.{flat_map}
-use Rattle.bundle_tree_listed.specs.Tree.{tpl_element_items}
-use Rattle.bundle_tree_walk.proofs.walk.Walk.each_tpl_element.Given as goal
-
-abbrev pub invariant-loop-element : goal.invariant-loop-element
-invariant-loop-element l = l.self ≡ l.initial.self ++ flat_map (tpl_element_items l.field) (take l.element-index l.element-items)

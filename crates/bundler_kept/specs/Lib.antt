@@ -1,5 +1,0 @@
-pub mod Hashed
-pub mod Held
-pub mod Kept
-pub mod Marks
-pub mod Placed
