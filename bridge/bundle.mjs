@@ -14,6 +14,8 @@ JavaScript module for each entry.
       --require        CommonJS modules too: calls require('./file') load modules
       --external NAME  leave imports of this specifier as they are; may come again. Names that do not
                        begin with ./, ../ or / are left as they are without it
+      --order WORD     of modules that form a cycle: standard (without it), in the order in which Node
+                       runs them; or needs, their statements sorted by what they need
       --document       write the program's document, and do not bundle it
       --program FILE   the program to run, else that of the environment's BUNDLE_JSON
       --help           this text
@@ -24,10 +26,13 @@ const options = {
   iife: { type: 'boolean', default: false },
   require: { type: 'boolean', default: false },
   external: { type: 'string', multiple: true, default: [] },
+  order: { type: 'string', default: 'standard' },
   document: { type: 'boolean', default: false },
   program: { type: 'string', default: process.env.BUNDLE_JSON },
   help: { type: 'boolean', default: false },
 };
+
+const orders = ['standard', 'needs'];
 
 // What is told on a terminal while there is work, on one line.
 function progress(text) {
@@ -38,6 +43,7 @@ function command(words) {
   const { values, positionals: entries } = parsed(words);
   if (values.help) return process.stdout.write(usage);
   if (entries.length === 0) throw new Failure(`there is no entry\n\n${usage}`, 2);
+  if (!orders.includes(values.order)) throw new Failure(`--order is ${orders.join(' or ')}\n\n${usage}`, 2);
   if (entries.length > 1 && !values.output && !values.document) {
     throw new Failure('several entries need a folder: -o FOLDER', 2);
   }
@@ -55,7 +61,7 @@ function parsed(words) {
 async function bundled(entries, values) {
   // Only here, so that --help needs no package.
   const { documentOf } = await import('./document.mjs');
-  const { text, paths } = documentOf(entries, values, progress);
+  const { text, paths, cycles } = documentOf(entries, values, progress);
   if (values.document) return written(values.output, text);
   progress(`bundling ${paths.size} files`);
   const { answered } = await import('./program.mjs');
@@ -64,6 +70,8 @@ async function bundled(entries, values) {
     const { refusalText } = await import('./refusal.mjs');
     throw new Failure(refusalText(refusal, paths));
   }
+  progress('');
+  for (const cycle of cycles) process.stderr.write(`circular: ${cycle.join(' -> ')}\n`);
   const { textOf } = await import('./write.mjs');
   const { withRequire } = await import('./require.mjs');
   for (const { name, module } of bundles) {

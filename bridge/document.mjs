@@ -16,8 +16,9 @@ const deepest = 127;
 const depthOfModules = 2;
 
 /**
- * The text of a document of these entries and all that they import, and the paths of its files by their names.
- * `options` has `require`, `iife` and `external`, a list of specifiers; `progress` is told what is read.
+ * The text of a document of these entries and all that they import, the paths of its files by their names, and the cycles
+ * of its files, each as the paths along it. `options` has `require`, `iife`, `order`, and `external`, a list of specifiers;
+ * `progress` is told what is read.
  */
 export function documentOf(entries, options, progress) {
   const roots = entries.map(existing);
@@ -33,13 +34,48 @@ export function documentOf(entries, options, progress) {
       require: options.require,
       module: options.iife ? 'Iife' : 'Es',
       external_modules: [...externals],
+      order: options.order === 'needs' ? 'Needs' : 'Standard',
     },
     files: byName((file, module) => module),
     entries: bundleNames(entries).map((name, at) => [name, names.get(roots[at])]),
     meta: byName(importMeta),
   };
   const paths = new Map([...names].map(([file, name]) => [name, shown(file)]));
-  return { text: JSON.stringify(document), paths };
+  const cycles = cyclesOf(roots, links).map((cycle) => cycle.map(shown));
+  return { text: JSON.stringify(document), paths, cycles };
+}
+
+// The cycles that files form, each once, as it is closed on the way that Node takes through them from these files on: a file,
+// the one that it requests and that is not done yet, and those between the two on that way, down to the file itself.
+function cyclesOf(roots, links) {
+  const requests = new Map();
+  for (const { file, target } of links) requests.set(file, [...(requests.get(file) ?? []), target]);
+  const cycles = new Map();
+  const begun = new Set();
+  for (const root of roots) {
+    if (begun.has(root)) continue;
+    // The files that are open, each with its requests that are left.
+    const open = [];
+    const places = new Map();
+    const enter = (file) => {
+      begun.add(file);
+      places.set(file, open.length);
+      open.push({ file, left: [...(requests.get(file) ?? [])].reverse() });
+    };
+    enter(root);
+    while (open.length > 0) {
+      const { file, left } = open.at(-1);
+      const target = left.pop();
+      if (target === undefined) {
+        places.delete(open.pop().file);
+      } else if (!begun.has(target)) {
+        enter(target);
+      } else if (places.has(target)) {
+        cycles.set(`${file}\0${target}`, [file, ...open.slice(places.get(target)).map((it) => it.file)]);
+      }
+    }
+  }
+  return [...cycles.values()];
 }
 
 // The modules of these files and of all that they import, the links between them, and the specifiers that lead to none.
@@ -57,7 +93,7 @@ function followed(roots, options, progress) {
       if (externals.has(source.value)) continue;
       if (onDisk(source.value)) {
         const target = resolved(file, source);
-        links.push({ source, target });
+        links.push({ file, source, target });
         found.add(target);
       } else {
         externals.add(source.value);

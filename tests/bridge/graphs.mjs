@@ -1,4 +1,5 @@
-// Graphs of modules, each a folder with main.js: what Node does with the modules is what it has to do with their bundle.
+// Graphs of modules, each a folder with main.js: what Node does with the modules is what it has to do with their bundle, in
+// either order.
 // A file `options` has words for the bridge.
 import fs from 'node:fs';
 import path from 'node:path';
@@ -14,12 +15,15 @@ for (const name of inFolder('graphs').filter((it) => !it.includes('.'))) {
   const main = path.join(folder, 'main.js');
   const options = words(folder);
   const isScript = options.includes('--iife');
-  const bundle = path.join(scratch, `${name}.${isScript ? 'cjs' : 'mjs'}`);
-  const made = bundled([main, ...options, '-o', bundle]);
-  check(`${name} is bundled`, () => equal(made.status, 0, made.stderr));
   // A script has no exports, and Node makes some for a CommonJS module of its own.
   const shown = isScript || options.includes('--require') ? played : imported;
-  check(`${name}: the bundle does and exports what the modules do`, () => deepEqual(shown(bundle), shown(main)));
+  const wanted = shown(main);
+  for (const order of ['standard', 'needs']) {
+    const bundle = path.join(scratch, `${name}-${order}.${isScript ? 'cjs' : 'mjs'}`);
+    const made = bundled([main, ...options, `--order=${order}`, '-o', bundle]);
+    check(`${name}, --order=${order}, is bundled`, () => equal(made.status, 0, made.stderr));
+    check(`${name}, --order=${order}: the bundle does and exports what the modules do`, () => deepEqual(shown(bundle), wanted));
+  }
 }
 
 check('several entries are bundled to files of a folder', () => {

@@ -13,13 +13,17 @@
 // values, and statements read what Node has not set up, so that some end in an error. There the order of a bundle may be
 // another than Node's. In a graph with a cycle each own statement then holds a number, its mark, which tells where it
 // stands; and there are no CommonJS modules, since it would show when they run.
+//
+// graph(seed, true, true) is for bundles in the standard's order: no statement holds a mark, and an object of a namespace may
+// lead to a module of the same cycle. `holdsItself` tells of graphs in which such an object is taken as a value: a bundle
+// makes it once, behind the items of its module, so what it does may differ then.
 
 // A mark: the module's number, and from 1 on the place of the statement in it.
 const MARK = 'MARK', PLACES = 1 << 12;
 /** The module and the place in it that a mark tells. */
 export const marked = (mark) => ({ module: Math.floor(mark / PLACES), place: mark % PLACES });
 
-export function graph(seed, isFree = false) {
+export function graph(seed, isFree = false, isStandard = false) {
   let state = (seed * 2654435761 + 12345) >>> 0;
   const random = (below) => {
     state ^= state << 13; state >>>= 0; state ^= state >>> 17; state ^= state << 5; state >>>= 0;
@@ -68,8 +72,9 @@ export function graph(seed, isFree = false) {
     arrange();
   }
 
-  const isMarked = isFree && modules.some(isCyclic);
-  if (isMarked) modules.forEach((m) => { m.commons = []; });
+  const isMixed = isFree && modules.some(isCyclic), isMarked = isMixed && !isStandard;
+  let holdsItself = false;
+  if (isMixed) modules.forEach((m) => { m.commons = []; });
   const own = (value) => (isMarked ? `(${MARK}, ${value})` : value);
 
   // A name that a module exports: what it is, or null where it is none or two.
@@ -114,7 +119,9 @@ export function graph(seed, isFree = false) {
         : linked(to).filter((l) => isFree || !together(m, l.m) || l.d.kind === 'function' || place.get(l.m) < place.get(m));
       const forms = ['named', 'named', 'bare'];
       if (!early && !together(m, to)) forms.push('through', ...(isPlain(to) ? ['star'] : []), ...(isFixed(to) ? ['whole', 'whole', 'nested'] : ['static']));
-      switch (one(forms)) {
+      else if (isStandard) forms.push(isFixed(to) && chance(30) ? 'whole' : 'static');
+      const form = one(forms);
+      switch (form) {
         case 'named': {
           const taken = some(all, 1 + random(3)).map((l) => ({ ...l, local: fresh(chance(50) ? l.name : one(SYMBOLS)) }));
           const main = taken.find((t) => t.name === 'default' && chance(60)), rest = taken.filter((t) => t !== main);
@@ -143,9 +150,11 @@ export function graph(seed, isFree = false) {
           const local = fresh(one(['ns', 'mod', 'x']));
           m.head.push(`import * as ${local} from ${from};`);
           for (const l of some(all, 2).filter((l) => l.name !== 'default')) {
-            m.uses.push({ text: `${local}.${l.name}`, kind: l.d.kind, d: l.d });
+            m.uses.push({ text: `${local}.${l.name}`, kind: l.d.kind, d: l.d, isLate: early });
             if (l.d.kind === 'whole') m.uses.push(...some(linked(l.m), 2).filter((k) => k.name !== 'default').map((k) => ({ text: `${local}.${l.name}.${k.name}`, kind: k.d.kind })));
           }
+          if (together(m, to) && form === 'static') break;
+          holdsItself ||= together(m, to);
           if (isFixed(to)) m.uses.push({ text: local, kind: 'whole' });
         }
       }
@@ -230,6 +239,6 @@ export function graph(seed, isFree = false) {
     return [...place.keys()].map((m) => m.i);
   };
   return {
-    files, entries, config: { require: true, ...(chance(20) ? { module: 'Iife' } : {}) }, isCyclic: modules.some(isCyclic), orderOf,
+    files, entries, config: { require: true, ...(chance(20) ? { module: 'Iife' } : {}) }, isCyclic: modules.some(isCyclic), holdsItself, orderOf,
   };
 }

@@ -24,12 +24,12 @@ use Rattle.bundle_json_form.specs.declared.layout.Shape.TheVariants
 use Rattle.bundle_tree_listed.specs.Tree.{module_item_items, module_items}
 use Rattle.bundle_scope_names.proofs.grown.Grown.{module_item_fit}
 use Rattle.bundler_call.specs.declared.bundle.Bundle.{Bundle}
-use Rattle.bundle_json_document.proofs.laid.Shown.{IsShownTree, shown_tree}
+use Rattle.bundle_json_text.proofs.laid.Shown.{IsShownTree, shown_tree}
 use Rattle.bundle_json_document.specs.Document.{no_document_notes, IsModuleForm}
 use Rattle.bundle_json_document.specs.Stream.{AreModuleParts, IsBody}
 use Rattle.bundle_json_document.specs.declared.stream.ModuleParts.{ModuleParts}
 use Rattle.bundle_json_document.specs.Bundles.{bundle_name, object_of, AppendsBundle, IsObjectOf, IsBundlesText, IsTreeOf}
-use Rattle.bundle_json_document.proofs.laid.Modules.{module_tree}
+use Rattle.bundle_json_text.proofs.laid.Modules.{module_tree}
 
 -- ---- by item
 

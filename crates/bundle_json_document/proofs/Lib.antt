@@ -1,8 +1,8 @@
 mod ByItem
 mod Fronts
 mod Maps
-mod laid
 mod Numbers
+mod Reading
 mod Turns
 mod Wanting
 mod Whole

@@ -12,7 +12,6 @@ use Rattle.std.specs.Prelude.{IsUtf8}
 use Rattle.serde_json.specs.Data.{Data, Members, no_members, put, array, object, Items, no_items, item}
 use Rattle.serde_json.specs.Find.{as_str, as_array as as_array_refusals, get, get_member}
 use Rattle.serde_json.proofs.Views.{get_member-put, get_member-put_other}
-use Rattle.bundle_tree_names.specs.declared.config.Config.{Config}
 use Rattle.json.specs.Lex.{tokens}
 use Rattle.json.specs.Token.{Token}
 use Rattle.json.specs.declared.value.Value.{Value}
@@ -34,6 +33,7 @@ use Rattle.bundle_tree_listed.specs.Tree.{key_value_prop_items, module_items}
 use Rattle.bundle_tree_parse.specs.Refused.{IsListOfNoModule, IsListOfNoProperties}
 use Rattle.bundle_tree_parse.specs.declared.build.BuildError.{BuildError}
 use Rattle.bundle_tree_parse.specs.declared.build.BuildError.TheVariants.{Form as NoTree, OutOfMemory as NoRoom}
+use Rattle.bundler_entry.specs.declared.call.OrderedConfig.{OrderedConfig}
 use Rattle.bundle_json_document.specs.Document.{AreLists, AreSettings, no_document_notes, AreProperties, IsDocument, IsEntryPair, IsArrayOf, IsMap, IsModuleForm, IsNoDocumentText, IsText, IsValueOf, IsDocumentText}
 use Rattle.bundle_json_document.specs.Stream.{AreEntriesIn, AreFilesIn, AreItems, AreListsIn, AreModuleParts, AreDocumentParts, AreSettingsIn, IsMemberKept, IsNextValue}
 use Rattle.bundle_json_document.specs.declared.stream.ModuleParts.{ModuleParts}
@@ -102,11 +102,11 @@ no_parts = record { config = tt; entries = tt; files = tt; lists = tt }
 
 -- a part that was read stands for its value, and one that was left out for none
 
-pub config_given : (d : Option Data) (config : Config) → IsMemberKept AreSettingsIn d (Some config) → AreSettings d config
+pub config_given : (d : Option Data) (config : OrderedConfig) → IsMemberKept AreSettingsIn d (Some config) → AreSettings d config
 config_given None config kept = absurd kept
 config_given (Some d) config kept = kept
 
-pub config_left_out : (d : Option Data) (config : Config) → AreSettings None config → IsMemberKept AreSettingsIn d None → AreSettings d config
+pub config_left_out : (d : Option Data) (config : OrderedConfig) → AreSettings None config → IsMemberKept AreSettingsIn d None → AreSettings d config
 config_left_out None config are kept = are
 config_left_out (Some d) config are kept = absurd kept
 

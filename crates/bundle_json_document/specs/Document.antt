@@ -19,10 +19,10 @@ use Rattle.bundle_tree_ast.specs.declared.prop.KeyValueProp.{KeyValueProp}
 use Rattle.bundle_tree_listed.specs.Tree.{key_value_prop_items, module_items}
 use Rattle.bundle_json_form.specs.Form.{top, AreForms, IsForm}
 use Rattle.bundle_tree_names.specs.FileName.{real, name_of}
-use Rattle.bundle_tree_names.specs.declared.config.Config.{Config}
 use Rattle.bundle_tree_names.specs.declared.config.ModuleType.{ModuleType}
 use Rattle.bundle_tree_names.specs.declared.config.ModuleType.TheVariants.{Es, Iife}
 use Rattle.bundle_tree_names.specs.declared.file_name.FileName.{FileName}
+use Rattle.bundler_entry.specs.declared.call.OrderedConfig.{OrderedConfig}
 use Rattle.bundle_json_document.specs.Numbers.{holds_of_read, is_whole}
 use Rattle.bundle_json_document.specs.declared.document.Document.{Document}
 
@@ -67,21 +67,32 @@ abbrev pub IsModuleType : Option Data → ModuleType → Type 0
 IsModuleType None kind = kind ≡ Es
 IsModuleType (Some d) kind = d ≡ string (module_word kind)
 
+-- the word for the order of modules: by what they need, or the standard's
+abbrev pub order_word : Bool → List ℕ
+order_word false = codes "Needs"
+order_word true = codes "Standard"
+
+-- whether modules stand in the standard's order, or by what they need
+abbrev pub IsOrder : Option Data → Bool → Type 0
+IsOrder None in_standard_order = in_standard_order ≡ false
+IsOrder (Some d) in_standard_order = d ≡ string (order_word in_standard_order)
+
 -- a whole number of 32 bits, or the largest
 abbrev pub IsLimit : Option Data → ℕ → Type 0
 IsLimit None limit = limit ≡ 4294967295
 IsLimit (Some d) limit = (as_number d ≡ Some (unsigned limit)) × (limit < 2 ^ 32)
 
 -- the members of the value are these settings
-pub record IsConfig (d : Data) (config : Config) : Type 0 where
-  pub require : IsTruth (get (codes "require") d) config.require
-  pub hygiene : IsTruth (get (codes "disable_hygiene") d) config.disable_hygiene
-  pub external : IsTextList (get (codes "external_modules") d) config.external_modules.items
-  pub kind : IsModuleType (get (codes "module") d) config.module
-  pub limit : IsLimit (get (codes "max_modules") d) config.max_modules
+pub record IsConfig (d : Data) (config : OrderedConfig) : Type 0 where
+  pub require : IsTruth (get (codes "require") d) config.base.require
+  pub hygiene : IsTruth (get (codes "disable_hygiene") d) config.base.disable_hygiene
+  pub external : IsTextList (get (codes "external_modules") d) config.base.external_modules.items
+  pub kind : IsModuleType (get (codes "module") d) config.base.module
+  pub limit : IsLimit (get (codes "max_modules") d) config.base.max_modules
+  pub order : IsOrder (get (codes "order") d) config.in_standard_order
 
 -- an object with these settings, or none and the settings to start from
-abbrev pub AreSettings : Option Data → Config → Type 0
+abbrev pub AreSettings : Option Data → OrderedConfig → Type 0
 AreSettings None config = IsConfig (object no_members) config
 AreSettings (Some d) config = IsSome (as_object d) × IsConfig d config
 

@@ -4,6 +4,7 @@ pub mod Document
 pub mod Error
 pub mod Numbers
 pub mod Parties
+pub mod Program
 pub mod Seen
 pub mod Stream
 pub mod Writing

@@ -15,8 +15,8 @@ use Rattle.bundle_tree_ast.specs.declared.module.ModuleItem.{ModuleItem}
 use Rattle.bundle_tree_ast.specs.declared.prop.KeyValueProp.{KeyValueProp}
 use Rattle.bundle_tree_listed.specs.Tree.{module_item_items}
 use Rattle.bundle_json_form.specs.Form.{text_at, top, AreForms}
-use Rattle.bundle_tree_names.specs.declared.config.Config.{Config}
 use Rattle.bundle_tree_names.specs.declared.file_name.FileName.{FileName}
+use Rattle.bundler_entry.specs.declared.call.OrderedConfig.{OrderedConfig}
 use Rattle.bundle_json_document.specs.Document.{no_document_notes, AreLists, AreSettings, IsEntryPair, IsArrayOf, IsMap, IsModuleForm}
 use Rattle.bundle_json_document.specs.Numbers.{holds_of_read, is_whole}
 use Rattle.bundle_json_document.specs.declared.stream.ModuleParts.{ModuleParts}
@@ -36,7 +36,7 @@ IsMemberKept R (Some d) (Some x) = R d x
 
 -- what each part of a document stands for
 
-abbrev pub AreSettingsIn : Data → Config → Type 0
+abbrev pub AreSettingsIn : Data → OrderedConfig → Type 0
 AreSettingsIn d config = AreSettings (Some d) config
 
 abbrev pub AreEntriesIn : Data → Vec (String Global × FileName) Global → Type 0

@@ -94,7 +94,7 @@ fn answer_text(alloc: Global, document: Document, hook: Box<dyn Hook>) -> Result
         entries,
     } = document;
     let loader = DocumentLoader { files };
-    let bundler = Bundler::new(alloc, loader, DocumentResolver, config, hook);
+    let bundler = Bundler::with_order(alloc, loader, DocumentResolver, config, hook);
     let bundles = bundler.into_bundles(alloc, entries)?;
     bundles_text(alloc, bundles.as_slice())
 }

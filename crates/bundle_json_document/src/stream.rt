@@ -26,9 +26,9 @@ use crate::values::{is_text, is_whole};
 use bundle_json_form::read_module;
 use bundle_syntax::{Node, Piece};
 use bundle_tree_ast::{ExportMetadata, Module};
-use bundle_tree_names::config::Config;
 use bundle_tree_names::file_name::FileName;
 use bundle_tree_parse::build_module;
+use bundler_call::OrderedConfig;
 use json::{Reader, Token, Value};
 use std::alloc::Global;
 use std::collections::BTreeMap;
@@ -36,7 +36,7 @@ use std::collections::BTreeMap;
 /// What was read of a document so far: nothing under a key that did not come yet.
 #[derive(Drop)]
 pub(crate) struct DocumentParts {
-    config: Option<Config>,
+    config: Option<OrderedConfig>,
     entries: Option<Vec<(String, FileName)>>,
     files: Option<BTreeMap<String, Module>>,
     lists: Option<Lists>,
@@ -151,7 +151,10 @@ impl DocumentParts {
 }
 
 // The settings that were read, or those to start from.
-fn config_or_default(alloc: Global, config: Option<Config>) -> Result<Config, DocumentError>
+fn config_or_default(
+    alloc: Global,
+    config: Option<OrderedConfig>,
+) -> Result<OrderedConfig, DocumentError>
     ensures { IfOk result (λ it.
         (d : Option Data) → IsMemberKept AreSettingsIn d config → AreSettings d it) }
 {

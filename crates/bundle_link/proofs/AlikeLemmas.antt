@@ -36,6 +36,7 @@ flip {p = p} {q = q} {R = R} w = record {
   require = sym w.require;
   external = sym w.external;
   iife = sym w.iife;
+  in_standard_order = sym w.in_standard_order;
   entry = w.entry;
   tree = λ a b r. sym (w.tree b a r);
   leads = λ a b c s r asked e. w.back b a c s r (asked_back b a s r asked) e;

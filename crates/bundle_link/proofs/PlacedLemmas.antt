@@ -286,6 +286,7 @@ module _ (p : Program) (ids : List ℕ) (leads : ℕ → Text → Option ℕ) (e
     require = refl;
     external = refl;
     iife = refl;
+    in_standard_order = refl;
     entry = w.begins;
     tree = same_tree;
     leads = λ m i n s at asked e. let k = place-there ids n (w.there m n s (held ids m i at) asked e) in (k.0, at-place ids n k.0 k.1, w.leads_on i m s at asked ∙ ap (option_and_then (module_place ids)) e ∙ k.1);

@@ -11,6 +11,7 @@ pub record IsAlike (p q : Program) (R : ℕ → ℕ → Type 0) : Type 0 where
   pub require : p.settings.require ≡ q.settings.require
   pub external : p.settings.external ≡ q.settings.external
   pub iife : p.settings.iife ≡ q.settings.iife
+  pub in_standard_order : p.settings.in_standard_order ≡ q.settings.in_standard_order
   pub entry : R p.entry q.entry
   pub tree : (a b : ℕ) → R a b → tree_of p a ≡ tree_of q b
   pub leads : (a b c : ℕ) (s : Text) →

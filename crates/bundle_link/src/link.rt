@@ -18,10 +18,10 @@ ghost use Rattle.bundle_link.specs.Programs.{AreModulesFaultless, AreTransformed
 ghost use Rattle.bundle_rules.specs.Nodes.{numbers_once};
 ghost use Rattle.bundle_link.specs.Resolved.{resolution_says};
 ghost use Rattle.bundle_link.specs.Read.{AreTablesOf};
-ghost use Rattle.bundle_link.specs.Refusals.{IsLinkRefusal, IsRefusalOfOne, IsTreeRefusal, module_files};
+ghost use Rattle.bundle_link.specs.Refusals.{HasExternals, IsLinkRefusal, IsRefusalOfOne, IsTreeRefusal, module_files};
 
 use crate::fault::link_refusal;
-use crate::tables::{read, read_list};
+use crate::tables::{externals_of, read, read_list};
 use crate::target::resolution_of;
 pub use crate::target::{Resolution, Target};
 pub use crate::transformed::TransformedModule;
@@ -29,6 +29,7 @@ use crate::{LinkedModules, NumberedModule};
 use bundle_link_tables::Tables;
 use bundle_link_targets::{LinkModule, Linking, Setting};
 use bundle_order_graph::graph::ModuleGraph;
+use bundle_scope_denote::texts::TextSet;
 use bundle_syntax::Piece;
 use bundle_tree_names::{Config, Error, FileName, ModuleId, ModuleType};
 use std::alloc::{AllocError, Global};
@@ -103,16 +104,29 @@ impl<'a> Linker<'a> {
         self.modules.get(self.linked.ids.get_index_of(&id)?)
     }
 
-    /// The tables of the list of a module, by the same settings. Refused where the tree has a fault of its own, and
-    /// where memory runs out.
-    pub fn tables_of<'x>(&self, file: &FileName, pieces: &[Piece<'x>]) -> Result<Tables<'x>, Error>
+    /// The texts that are external by the settings: made once for all lists whose tables are asked for.
+    pub fn externals(&self) -> Result<TextSet<&str>, AllocError>
+        ensures { IfOk result (λ external. HasExternals external self.now.config) }
+    {
+        externals_of(self.alloc, &self.config)
+    }
+
+    /// The tables of the list of a module, by the same settings, where these are the texts that are external
+    /// (`externals`). Refused where the tree has a fault of its own, and where memory runs out.
+    pub fn tables_of<'x>(
+        &self,
+        file: &FileName,
+        pieces: &[Piece<'x>],
+        external: &TextSet<&str>,
+    ) -> Result<Tables<'x>, Error>
+        requires { HasExternals external.now self.now.config }
         ensures refused { IfErr result (IsTreeRefusal (name_of file.now) (map item_of pieces.now)) }
         ensures given { IfOk result
             (AreTablesOf self.now.config (name_of file.now) (map item_of pieces.now)) }
         ensures meta { IfOk result (λ tables.
             tables.has_import_meta ≡ has_import_meta (map item_of pieces.now)) }
     {
-        read_list(self.alloc, file, pieces, &self.config)
+        read_list(self.alloc, file, pieces, &self.config, external)
     }
 
     /// What the names of the modules on the list stand for, where these are their tables in turn, their requests lead to
@@ -258,9 +272,10 @@ fn tables_of_all<'a>(
         AllZip (HasTables config.now) modules.now tables.items) }
     ensures refused { IfErr result (IsRefusalOfOne modules.now) }
 {
+    let external = externals_of(alloc, config)?;
     let mut tables = Vec::new(alloc);
     for module in modules {
-        tables.push(read(alloc, &module.file_name, module.tree, config)?)?;
+        tables.push(read(alloc, &module.file_name, module.tree, config, &external)?)?;
     }
     Ok(tables)
 }

@@ -18,12 +18,13 @@ ghost use Rattle.bundle_rules.specs.Tables as t;
 ghost use Rattle.bundle_rules.specs.Tables.{IsExportTable, IsImportTable, IsRequestTable};
 ghost use Rattle.bundle_link.specs.Owned.{entry_key, entry_says, export_says, exports_say, import_says, name_says};
 ghost use Rattle.bundle_link.specs.Read.{AreTablesOf};
-ghost use Rattle.bundle_link.specs.Refusals.{IsTreeRefusal, Links};
+ghost use Rattle.bundle_link.specs.Refusals.{HasExternals, IsTreeRefusal, Links};
 
 use crate::fault::tree_refusal;
 use bundle_link_tables::{
-    Export, ImportRef as Read, Origin, Tables, Taken, requests_in, tables_of,
+    Export, ImportRef as Read, Origin, Tables, Taken, external_texts, requests_in, tables_of,
 };
+use bundle_scope_denote::texts::TextSet;
 use bundle_scope_denote::{ModuleKind, Reading, denotations};
 use bundle_syntax::Piece;
 use bundle_tree_ast::Module;
@@ -66,6 +67,13 @@ pub struct Exports {
     pub stars: Vec<String>,
 }
 
+/// The texts that are external by a configuration: made once for all modules that are read.
+pub fn externals_of(alloc: Global, config: &Config) -> Result<TextSet<&str>, AllocError>
+    ensures { IfOk result (λ external. HasExternals external config.now) }
+{
+    external_texts(alloc, &config.external_modules)
+}
+
 /// What a module asks to be loaded, each text once: what its imports and exports ask for, in the order of the
 /// source, and then its literal calls of `require`, where the settings link them. External texts are left out.
 pub fn requests_of(
@@ -82,8 +90,29 @@ pub fn requests_of(
         IsRequestTable settings (name_of file.now) (module_items 0 tree.now)
         (t.Given (map (λ text. string_bytes text) requests.items))) }
 {
+    let external = externals_of(alloc, config)?;
+    requests_by(alloc, file, tree, config, &external)
+}
+
+/// The same, where these are the texts that are external (`externals_of`).
+pub fn requests_by(
+    alloc: Global,
+    file: &FileName,
+    tree: &Module,
+    config: &Config,
+    external: &TextSet<&str>,
+) -> Result<Vec<String>, Error>
+    requires { HasExternals external.now config.now }
+    ensures refused { IfErr result
+        (IsTreeRefusal (name_of file.now) (module_items 0 tree.now)) }
+    ensures given { IfOk result (λ requests.
+        (settings : Settings) →
+        Links config.now settings →
+        IsRequestTable settings (name_of file.now) (module_items 0 tree.now)
+        (t.Given (map (λ text. string_bytes text) requests.items))) }
+{
     let pieces = pieces_of_module(alloc, tree)?;
-    let requests = requested(alloc, file, &pieces, config)?;
+    let requests = requested(alloc, file, &pieces, config, external)?;
     Ok(owned_texts(alloc, &requests)?)
 }
 
@@ -100,7 +129,8 @@ pub fn imports_of(
         IsImportTable (name_of file.now) (module_items 0 tree.now)
         (t.Given (map import_says imports.items))) }
 {
-    let tables = read(alloc, file, tree, config)?;
+    let external = externals_of(alloc, config)?;
+    let tables = read(alloc, file, tree, config, &external)?;
     Ok(owned_imports(alloc, &tables.imports)?)
 }
 
@@ -117,7 +147,8 @@ pub fn exports_of(
         IsExportTable (name_of file.now) (module_items 0 tree.now)
         (t.Given (exports_say exports))) }
 {
-    let tables = read(alloc, file, tree, config)?;
+    let external = externals_of(alloc, config)?;
+    let tables = read(alloc, file, tree, config, &external)?;
     Ok(owned_exports(alloc, &tables)?)
 }
 
@@ -127,14 +158,16 @@ pub(crate) fn read<'a>(
     file: &FileName,
     tree: &'a Module,
     config: &Config,
+    external: &TextSet<&str>,
 ) -> Result<Tables<'a>, Error>
+    requires { HasExternals external.now config.now }
     ensures refused { IfErr result
         (IsTreeRefusal (name_of file.now) (module_items 0 tree.now)) }
     ensures given { IfOk result
         (AreTablesOf config.now (name_of file.now) (module_items 0 tree.now)) }
 {
     let pieces = pieces_of_module(alloc, tree)?;
-    read_list(alloc, file, &pieces, config)
+    read_list(alloc, file, &pieces, config, external)
 }
 
 /// The same of the list of a module.
@@ -143,7 +176,9 @@ pub(crate) fn read_list<'a>(
     file: &FileName,
     pieces: &[Piece<'a>],
     config: &Config,
+    external: &TextSet<&str>,
 ) -> Result<Tables<'a>, Error>
+    requires { HasExternals external.now config.now }
     ensures refused { IfErr result (IsTreeRefusal (name_of file.now) (map item_of pieces.now)) }
     ensures given { IfOk result
         (AreTablesOf config.now (name_of file.now) (map item_of pieces.now)) }
@@ -151,13 +186,7 @@ pub(crate) fn read_list<'a>(
         tables.has_import_meta ≡ has_import_meta (map item_of pieces.now)) }
 {
     let names = denotations(alloc, pieces, ModuleKind::Es, Reading::BySymbol)?;
-    let answer = tables_of(
-        alloc,
-        pieces,
-        &names,
-        config.require,
-        &config.external_modules,
-    )?;
+    let answer = tables_of(alloc, pieces, &names, config.require, external)?;
     match answer {
         Ok(tables) => Ok(tables),
         Err(fault) => Err(tree_refusal(alloc, file, fault)?),
@@ -170,7 +199,9 @@ fn requested<'a>(
     file: &FileName,
     pieces: &[Piece<'a>],
     config: &Config,
+    external: &TextSet<&str>,
 ) -> Result<Vec<&'a str>, Error>
+    requires { HasExternals external.now config.now }
     ensures refused { IfErr result (IsTreeRefusal (name_of file.now) (map item_of pieces.now)) }
     ensures faultless { OnOk result (IsFaultless (name_of file.now) (map item_of pieces.now)) }
     ensures given { IfOk result (λ requests.
@@ -179,7 +210,7 @@ fn requested<'a>(
         map (λ request. request.now) requests.items
         ≡ the_entries.requests_of settings (is_free (map item_of pieces.now)) (map item_of pieces.now)) }
 {
-    let answer = requests_in(alloc, pieces, config.require, &config.external_modules)?;
+    let answer = requests_in(alloc, pieces, config.require, external)?;
     match answer {
         Ok(requests) => Ok(requests),
         Err(fault) => Err(tree_refusal(alloc, file, fault)?),

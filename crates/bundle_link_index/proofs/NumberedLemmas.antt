@@ -159,15 +159,15 @@ module _ {K V : Type 0} (eq : K → K → Bool) (view : K → V) (decides : (a b
 
 -- ---- what is noted goes on standing
 IsNumber-more : (names new_names : List Text) (values new_values : List Value) → IsMore names new_names → IsMore values new_values → (said : Said) (own : OwnLink) → IsSaidNumber names values said own → IsSaidNumber new_names new_values said own
-IsNumber-more names new_names values new_values more_names more_values (It t origin) (Gives v) is = more_values.stays v (t, origin) is
-IsNumber-more names new_names values new_values more_names more_values (It t origin) (Leads next) is = absurd is
-IsNumber-more names new_names values new_values more_names more_values (It t origin) Nothing is = absurd is
-IsNumber-more names new_names values new_values more_names more_values (On d y) (Gives v) is = absurd is
-IsNumber-more names new_names values new_values more_names more_values (On d y) (Leads next) is = (is.0, more_names.stays next.1 y is.1)
-IsNumber-more names new_names values new_values more_names more_values (On d y) Nothing is = absurd is
-IsNumber-more names new_names values new_values more_names more_values Naught (Gives v) is = absurd is
-IsNumber-more names new_names values new_values more_names more_values Naught (Leads next) is = absurd is
-IsNumber-more names new_names values new_values more_names more_values Naught Nothing is = is
+IsNumber-more names new_names _ new_values more_names more_values (It t origin) (Gives v) is = more_values.stays v (t, origin) is
+IsNumber-more names new_names _ new_values more_names more_values (It t origin) (Leads next) is = absurd is
+IsNumber-more names new_names _ new_values more_names more_values (It t origin) Nothing is = absurd is
+IsNumber-more names new_names _ new_values more_names more_values (On d y) (Gives v) is = absurd is
+IsNumber-more names new_names _ new_values more_names more_values (On d y) (Leads next) is = (is.0, more_names.stays next.1 y is.1)
+IsNumber-more names new_names _ new_values more_names more_values (On d y) Nothing is = absurd is
+IsNumber-more names new_names _ new_values more_names more_values Naught (Gives v) is = absurd is
+IsNumber-more names new_names _ new_values more_names more_values Naught (Leads next) is = absurd is
+IsNumber-more names new_names _ new_values more_names more_values Naught Nothing is = is
 
 pub Holds-more : (noted : List NotedEntry) (stars : List (List ℕ)) (names new_names : List Text) (values new_values : List Value) (g : Graph) → IsMore names new_names → IsMore values new_values → HoldsEntries noted stars names values g → HoldsEntries noted stars new_names new_values g
 Holds-more noted stars names new_names values new_values g more_names more_values w = record {
@@ -228,7 +228,7 @@ module _ (noted : List NotedEntry) (stars : List (List ℕ)) (names : List Text)
 
 -- ---- the stars of one module more
 pub Holds-stars : (noted : List NotedEntry) (stars : List (List ℕ)) (names : List Text) (values : List Value) (old new : Graph) (its : List ℕ) → new.lists ≡ old.lists ++ its ∷ [] → new.entries ≡ old.entries → new.default ≡ old.default → HoldsEntries noted stars names values old → HoldsEntries noted (stars ++ its ∷ []) names values new
-Holds-stars noted stars names values old new its lists entries default w = record {
+Holds-stars noted stars names _ old new its lists entries default w = record {
   own = λ m n own e. w.own m n own (sym (same (m, n)) ∙ e);
   all = λ entry there. let r = w.all entry there in (r.0, r.1, λ none. r.2 (sym (same (entry.which, r.0)) ∙ none));
   stars = lists ∙ ap (λ l. l ++ its ∷ []) w.stars;

@@ -17,7 +17,7 @@ use Rattle.bundle_link_index.specs.declared.links.OwnLink.{OwnLink}
 use Rattle.bundle_link_index.specs.declared.links.OwnLink.TheVariants.{Gives, Leads}
 use Rattle.bundle_link_index.specs.Graph.{NameSpot, Graph, own_of, stars_of, same_spot}
 use Rattle.bundle_link_index.specs.Given.{Given, itself, led, starred, GivesAtMost, AreCandidatesKept, IsCandidates, AreAnswersRight, IsIn, AddsMissing, NotesAnswer}
-use Rattle.bundle_link_index.specs.Reached.{Starring, HasOwn, IsReach, TellsHolder, SameGiven, InLine, AnswersAll, Reaching, HeldNames, AreHeld, held_entry, holders_of, put_name, AreAllHeld, TellsAmong}
+use Rattle.bundle_link_index.specs.Reached.{Starring, HasOwn, IsReach, HasReach, AreStarsWithin, ExtendsReach, TellsHolder, SameGiven, InLine, AnswersAll, Reaching, HeldNames, AreHeld, held_entry, holders_of, put_name, AreAllHeld, TellsAmong}
 use Rattle.bundle_link_index.specs.declared.answer.Candidates.{Candidates}
 use Rattle.bundle_link_index.specs.declared.answer.Candidates.TheVariants.{Missing, One, Two}
 use Rattle.bundle_link_index.proofs.SearchLemmas.{same_spot-true, Adds-one, Adds-more, there_from_any, any_from_there, each_place, one_or_two}
@@ -83,7 +83,7 @@ module _ (g : Graph) where
       by (led {next = next} f more) e only = absurd (none-some (Leads next) (sym e ∙ f))
       by {at = at} {v = v} (starred {d = d} none other there more) e only = subst (λ x. Given g (x, at.1) v) (the_one d star (subst (λ l. Contains l d) only there)) more
 
-  pub alone_by_holder : (m n : ℕ) (list : List ℕ) → own_of g (m, n) ≡ None → n ≢ g.default → IsReach g m list → (h : ℕ) → TellsHolder g list n (One h) → SameGiven g (m, n) (h, n)
+  pub alone_by_holder : (m n : ℕ) (list : List ℕ) → own_of g (m, n) ≡ None → n ≢ g.default → HasReach g m list → (h : ℕ) → TellsHolder g list n (One h) → SameGiven g (m, n) (h, n)
   alone_by_holder m n list e named reach h tells = record {
     from = onto_only g n h named (reach.reached h tells.0) only;
     onto = λ v given. from_only g h given only;
@@ -92,7 +92,7 @@ module _ (g : Graph) where
       only : (k : ℕ) → Reaches (Starring g) m k → HasOwn g n k → k ≡ h
       only k path own = tells.1 k (reach.all k path) own
 
-  pub none_by_holder : (m n : ℕ) (list : List ℕ) → IsReach g m list → TellsHolder g list n Missing → (v : ℕ) → Given g (m, n) v → ⊥
+  pub none_by_holder : (m n : ℕ) (list : List ℕ) → HasReach g m list → TellsHolder g list n Missing → (v : ℕ) → Given g (m, n) v → ⊥
   none_by_holder m n list reach tells v given = none_reached g given (λ k path own. tells k (reach.all k path) own)
 
   -- ---- answers
@@ -200,6 +200,34 @@ module _ (g : Graph) (start : ℕ) where
   onward here c star = along star here
   onward (along first path) c star = along first (onward path c star)
 
+  -- of what was reached before, where nothing was
+  pub Reach-of : (list : List ℕ) → ExtendsReach g start [] list → IsReach g start list
+  Reach-of list e = record {
+    first = e.first refl;
+    reached = λ k there. elim (e.no_more k there) [
+      | inl none ↦ absurd (none-some k none.1)
+      | inr path ↦ path
+    ];
+    all = e.all;
+  }
+
+  pub none-within : (old : List ℕ) → old ≡ [] → AreStarsWithin g old
+  none-within old none k d there star = absurd (none-some k (subst (λ l. slice_get l there.0 ≡ Some k) none there.1))
+
+  -- what one reaches is with the stars
+  pub reach-within : (known : ℕ) (list : List ℕ) → HasReach g known list → AreStarsWithin g list
+  reach-within known list its k d there star = its.all d (onward (its.reached k there) d star)
+
+  -- what a module reaches that stars another is what that one reaches, and what stars lead to from it
+  pub Reach-extended : (known : ℕ) (old new : List ℕ) → Starring g start known → HasReach g known old → ExtendsReach g start old new → HasReach g start new
+  Reach-extended known old new star its e = record {
+    reached = λ k there. elim (e.no_more k there) [
+      | inl early ↦ along star (its.reached k early)
+      | inr path ↦ path
+    ];
+    all = e.all;
+  }
+
   first_is : (list : List ℕ) → AddsMissing [] (λ other. other ≡ start) list → slice_get list 0 ≡ Some start
   first_is list adds =
       let there = adds.there start refl in
@@ -209,22 +237,31 @@ module _ (g : Graph) (start : ℕ) where
         | inr e ↦ place.1 ∙ ap (λ x. Some x) e
       ]
 
-  pub Reaching-begins : (list : List ℕ) → AddsMissing [] (λ other. other ≡ start) list → Reaching g start list 0
-  Reaching-begins list adds = record {
-    first = first_is list adds;
-    reached = λ k there. elim (adds.no_more k there) [
-      | inl none ↦ absurd (none-some k none.1)
-      | inr e ↦ subst (Reaches (Starring g) start) (sym e) here
+  pub Reaching-begins : (old list : List ℕ) → AreStarsWithin g old → AddsMissing old (λ other. other ≡ start) list → Reaching g start old list (length old)
+  Reaching-begins old list within adds = record {
+    first = λ none. first_is list (subst (λ l. AddsMissing l (λ other. other ≡ start) list) none adds);
+    begun = adds.there start refl;
+    no_more = λ k there. elim (adds.no_more k there) [
+      | inl o ↦ inl o
+      | inr e ↦ inr (subst (Reaches (Starring g) start) (sym e) here)
     ];
-    past = λ i k h e d star. absurd (omega arith);
+    past = λ i k h e d star.
+        let its = each_place old i h in
+        let same : its.0 ≡ k = same_Some its.0 k (sym (adds.stays i its.0 its.1) ∙ e) in
+        let there = within k d (i, its.1 ∙ ap (λ x. Some x) same) star in
+        (there.0, adds.stays there.0 d there.1);
   }
 
-  pub Reaching-steps : (old new : List ℕ) (done next : ℕ) → Reaching g start old done → slice_get old done ≡ Some next → ((i : ℕ) → i < done → (k : ℕ) × (slice_get old i ≡ Some k)) → AddsMissing old (Contains (stars_of g next)) new → Reaching g start new (done + 1)
-  Reaching-steps old new done next w at each adds = record {
-    first = adds.stays 0 start w.first;
-    reached = λ k there. elim (adds.no_more k there) [
-      | inl o ↦ w.reached k o
-      | inr star ↦ onward (w.reached next (done, at)) k star
+  pub Reaching-steps : (first old new : List ℕ) (done next : ℕ) → AreStarsWithin g first → Reaching g start first old done → slice_get old done ≡ Some next → ((i : ℕ) → i < done → (k : ℕ) × (slice_get old i ≡ Some k)) → AddsMissing old (Contains (stars_of g next)) new → Reaching g start first new (done + 1)
+  Reaching-steps first old new done next within w at each adds = record {
+    first = λ none. adds.stays 0 start (w.first none);
+    begun = (w.begun.0, adds.stays w.begun.0 start w.begun.1);
+    no_more = λ k there. elim (adds.no_more k there) [
+      | inl o ↦ w.no_more k o
+      | inr star ↦ elim (w.no_more next (done, at)) [
+        | inl early ↦ inl (within next k early star)
+        | inr path ↦ inr (onward path k star)
+      ]
     ];
     past = λ i k h e d star. elim (cases_lt i done) [
       | inl l ↦ let its = each i l in
@@ -236,8 +273,8 @@ module _ (g : Graph) (start : ℕ) where
     ];
   }
 
-  pub Reaching-ends : (list : List ℕ) (done : ℕ) → Reaching g start list done → ((i k : ℕ) → slice_get list i ≡ Some k → i < done) → IsReach g start list
-  Reaching-ends list done w over = record { first = w.first; reached = w.reached; all = λ k path. from path (0, w.first) }
+  pub Reaching-ends : (old list : List ℕ) (done : ℕ) → Reaching g start old list done → ((i k : ℕ) → slice_get list i ≡ Some k → i < done) → ExtendsReach g start old list
+  Reaching-ends old list done w over = record { first = w.first; no_more = w.no_more; all = λ k path. from path w.begun }
     where
       from : {a k : ℕ} → Reaches (Starring g) a k → IsIn list a → IsIn list k
       from here there = there

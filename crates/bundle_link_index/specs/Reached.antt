@@ -1,5 +1,5 @@
 -- The modules to which stars lead, those that have an entry of a name, and names for which the same is given.
-use Rattle.std.specs.Prelude.{◌≡◌, ◌≢◌, ℕ, ◌<◌, nat_eq, List, [], ◌∷◌, ◌++◌, Some, None, Contains, map, slice_get, unwrap_or, if◌then◌else◌}
+use Rattle.std.specs.Prelude.{◌≡◌, ◌≢◌, ◌⊎◌, ℕ, ◌<◌, nat_eq, List, [], ◌∷◌, ◌++◌, Some, None, Contains, map, slice_get, unwrap_or, if◌then◌else◌}
 use Rattle.std.specs.Map.{lookup}
 use Rattle.std.specs.declared.vec.Vec.{Vec}
 use Rattle.std.specs.declared.alloc.Global.{Global}
@@ -10,6 +10,7 @@ use Rattle.bundle_link_index.specs.declared.answer.Candidates.TheVariants.{Missi
 use Rattle.bundle_link_index.specs.declared.line.Onward.{Onward}
 use Rattle.bundle_link_index.specs.declared.line.Onward.TheVariants.{To, Nothing, Apart}
 use Rattle.bundle_link_index.specs.declared.line.LineStep.{LineStep}
+use Rattle.bundle_link_index.specs.declared.line.NotedReach.{NotedReach}
 use Rattle.bundle_link_index.specs.declared.line.LineStep.TheVariants.{To as On, Done}
 use Rattle.bundle_link_index.specs.Graph.{NameSpot, Graph, own_of, stars_of}
 use Rattle.bundle_link_index.specs.Given.{Given, IsCandidates, AreAnswersRight, IsIn}
@@ -28,14 +29,32 @@ pub record IsReach (g : Graph) (start : ℕ) (list : List ℕ) : Type 0 where
   pub reached : (k : ℕ) → IsIn list k → Reaches (Starring g) start k
   pub all : (k : ℕ) → Reaches (Starring g) start k → IsIn list k
 
--- such a list, of whatever module it begins with
-abbrev pub IsReachNoted : Graph → List ℕ → Type 0
-IsReachNoted g list = (start : ℕ) → slice_get list 0 ≡ Some start → IsReach g start list
-
--- so many of the modules that were met are done
-pub record Reaching (g : Graph) (start : ℕ) (list : List ℕ) (done : ℕ) : Type 0 where
-  pub first : slice_get list 0 ≡ Some start
+-- the list has exactly the modules to which stars lead from one
+pub record HasReach (g : Graph) (start : ℕ) (list : List ℕ) : Type 0 where
   pub reached : (k : ℕ) → IsIn list k → Reaches (Starring g) start k
+  pub all : (k : ℕ) → Reaches (Starring g) start k → IsIn list k
+
+-- it has those of the module that is noted with it
+abbrev pub IsReachNoted : Graph → NotedReach → Type 0
+IsReachNoted g reach =
+    (start : ℕ) → reach.start ≡ Some start → HasReach g start reach.modules.keys
+
+-- what the modules of the list star is in it
+abbrev pub AreStarsWithin : Graph → List ℕ → Type 0
+AreStarsWithin g list = (k d : ℕ) → IsIn list k → Starring g k d → IsIn list d
+
+-- the new list has the modules to which stars lead from one, and no others but those that were
+-- there; it begins with that one if none were
+pub record ExtendsReach (g : Graph) (start : ℕ) (old new : List ℕ) : Type 0 where
+  pub first : old ≡ [] → slice_get new 0 ≡ Some start
+  pub no_more : (k : ℕ) → IsIn new k → IsIn old k ⊎ Reaches (Starring g) start k
+  pub all : (k : ℕ) → Reaches (Starring g) start k → IsIn new k
+
+-- so many of the modules that were there or were met are done
+pub record Reaching (g : Graph) (start : ℕ) (old list : List ℕ) (done : ℕ) : Type 0 where
+  pub first : old ≡ [] → slice_get list 0 ≡ Some start
+  pub begun : IsIn list start
+  pub no_more : (k : ℕ) → IsIn list k → IsIn old k ⊎ Reaches (Starring g) start k
   pub past : (i k : ℕ) → i < done → slice_get list i ≡ Some k → (d : ℕ) → Starring g k d → IsIn list d
 
 -- Names with modules.
@@ -108,6 +127,6 @@ pub record AnswersAll (g : Graph) (at : NameSpot) (line : List NameSpot)
 
 -- the answers that are noted are right, and so is the list of those to which stars lead
 pub record IsReady (g : Graph) (answers : List (NameSpot × Candidates))
-    (reach : List ℕ) : Type 0 where
+    (reach : NotedReach) : Type 0 where
   pub right : AreAnswersRight g answers
   pub noted : IsReachNoted g reach

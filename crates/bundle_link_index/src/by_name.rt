@@ -3,7 +3,7 @@
 ghost use Rattle.std.specs.Prelude.{◌≡◌, ◌<◌, IfOk, OnOk, Some, Contains, length, slice_get};
 ghost use Rattle.bundle_link_index.specs.Graph.{graph_of, own_of, stars_of};
 ghost use Rattle.bundle_link_index.specs.Given.{AddsMissing};
-ghost use Rattle.bundle_link_index.specs.Reached.{AreAllHeld, IsReach, TellsAmong, TellsHolder, names_held, put_name};
+ghost use Rattle.bundle_link_index.specs.Reached.{AreAllHeld, AreStarsWithin, ExtendsReach, IsReach, TellsAmong, TellsHolder, names_held, put_name};
 
 use crate::answer::Candidates;
 use crate::links::{Links, OwnLink};
@@ -64,14 +64,27 @@ impl LinksByName {
         ensures { IfOk result (λ reach. IsReach self.now start reach.keys) }
     {
         let mut reach = IndexSet::new(alloc);
-        put_module(&mut reach, start)?;
-        let mut done = 0;
+        self.extend_reach(&mut reach, start)?;
+        Ok(reach)
+    }
+
+    /// Adds the modules to which stars lead from one, itself among them, to modules with all that they star.
+    pub(crate) fn extend_reach(
+        &self,
+        reach: &mut IndexSet<usize>,
+        start: usize,
+    ) -> Result<(), AllocError>
+        requires { AreStarsWithin self.now reach.old.keys }
+        ensures { OnOk result (ExtendsReach self.now start reach.old.keys reach.new.keys) }
+    {
+        let mut done = reach.len();
+        put_module(reach, start)?;
         while done < reach.len() {
-            let next = number_at(&reach, done);
-            put_modules(self.stars(next), &mut reach)?;
+            let next = number_at(&*reach, done);
+            put_modules(self.stars(next), reach)?;
             done += 1;
         }
-        Ok(reach)
+        Ok(())
     }
 
     /// Which of the modules that are reached have an entry of a name: none, one, or more, of which two are

@@ -7,7 +7,7 @@ ghost use Rattle.bundle_link_index.specs.Reached.{IsReachNoted, IsReach};
 
 use crate::answer::Candidates;
 use crate::by_name::LinksByName;
-use crate::line::answer_in_line;
+use crate::line::{NotedReach, answer_in_line};
 use crate::links::{Links, OwnLink};
 use indexmap::{IndexMap, IndexSet};
 use std::alloc::{AllocError, Global};
@@ -18,8 +18,7 @@ use std::marker::Model;
 pub struct Search {
     index: LinksByName,
     answers: IndexMap<(usize, usize), Candidates>,
-    /// The modules to which stars lead from the one that was asked last.
-    reach: IndexSet<usize>,
+    reach: NotedReach,
 }
 
 impl Model for Search {
@@ -30,7 +29,7 @@ impl Model for Search {
 
     ghost view = { λ s. s.index };
 
-    ghost invariant = { λ s. IsReady s.index s.answers.entries s.reach.keys };
+    ghost invariant = { λ s. IsReady s.index s.answers.entries s.reach };
 }
 
 impl Search {
@@ -41,7 +40,7 @@ impl Search {
         Ok(Search {
             index: LinksByName::new(alloc, links)?,
             answers: IndexMap::new(alloc),
-            reach: IndexSet::new(alloc),
+            reach: NotedReach::new(alloc),
         })
     }
 
@@ -52,7 +51,7 @@ impl Search {
         if let Some(answer) = own_answer(&self.index, at) {
             return Ok(answer);
         }
-        let mut reach = IndexSet::new(alloc);
+        let mut reach = NotedReach::new(alloc);
         let mut line = IndexSet::new(alloc);
         answer_in_line(alloc, &self.index, &self.answers, &mut reach, at, &mut line)
     }
@@ -95,14 +94,14 @@ fn answer_anew(
     alloc: Global,
     index: &LinksByName,
     answers: &mut IndexMap<(usize, usize), Candidates>,
-    reach: &mut IndexSet<usize>,
+    reach: &mut NotedReach,
     at: (usize, usize),
 ) -> Result<Candidates, AllocError>
     requires right { AreAnswersRight index.now answers.old.entries }
-    requires noted { IsReachNoted index.now reach.old.keys }
+    requires noted { IsReachNoted index.now reach.old }
     ensures answer { IfOk result (λ answer. IsCandidates index.now at answer) }
     ensures right { AreAnswersRight index.now answers.new.entries }
-    ensures noted { IsReachNoted index.now reach.new.keys }
+    ensures noted { IsReachNoted index.now reach.new }
 {
     let mut line = IndexSet::new(alloc);
     let answer = answer_in_line(alloc, index, &*answers, reach, at, &mut line)?;

@@ -50,7 +50,7 @@ specifiers : (calls : List RequireCall) → map (λ call. call.specifier.now) ca
 specifiers [] = refl
 specifiers (call ∷ calls) = ap (λ l. call.specifier.now ∷ l) (specifiers calls)
 
-pub requested : (settings : Settings) (is_free : ℕ → Bool) (tree : List Item) (texts : List Text) (sources : List Source) (calls : List RequireCall) → settings.external ≡ texts → map source_asked sources ≡ map (told_external texts) (declared_requests tree) → map call_entry_of calls ≡ linked_calls settings is_free tree → each_once (unexternal sources ++ map (λ call. call.specifier.now) calls) ≡ requests_of settings is_free tree
-requested settings is_free tree texts sources calls said told linked =
-    ap (λ l. each_once (l ++ map (λ call. call.specifier.now) calls)) (unexternal_filter texts sources (declared_requests tree) told ∙ ap (λ l. filter (λ s. not (has_text s l)) (declared_requests tree)) (sym said))
+pub requested : (settings : Settings) (is_free : ℕ → Bool) (tree : List Item) (sources : List Source) (calls : List RequireCall) → map source_asked sources ≡ map (told_external settings.external) (declared_requests tree) → map call_entry_of calls ≡ linked_calls settings is_free tree → each_once (unexternal sources ++ map (λ call. call.specifier.now) calls) ≡ requests_of settings is_free tree
+requested settings is_free tree sources calls told linked =
+    ap (λ l. each_once (l ++ map (λ call. call.specifier.now) calls)) (unexternal_filter settings.external sources (declared_requests tree) told)
     ∙ ap (λ l. each_once (filter (λ s. not (has_text s settings.external)) (declared_requests tree) ++ l)) (specifiers calls ∙ ap (map (λ (call : e.RequireCall). call.specifier)) linked)

@@ -23,4 +23,4 @@ pub use table::{
     AskedName, Export, FileFault, ImportRef, MemberRead, Origin, RequireCall, Source, Tables,
     Taken, Use,
 };
-pub use tables::tables_of;
+pub use tables::{external_texts, tables_of};

@@ -1,6 +1,6 @@
 //! What a module asks to be loaded, without its other tables.
 
-ghost use Rattle.std.specs.Prelude.{◌≡◌, [], IfOk, MatchResult, filter, map, not, string_bytes};
+ghost use Rattle.std.specs.Prelude.{◌≡◌, [], IfOk, MatchResult, filter, map, not};
 ghost use Rattle.bundle_tree_names.specs.FileName.{Name};
 ghost use Rattle.bundle_syntax.specs.Item.{item_of};
 ghost use Rattle.bundle_rules.specs.Bound.{is_free};
@@ -19,7 +19,7 @@ use crate::calls::linked_calls;
 use crate::faults::{first_fault, first_unlisted_fault};
 use crate::outline::{Outline, outline_of};
 use crate::table::{FileFault, RequireCall};
-use crate::tables::{requests, texts};
+use crate::tables::requests;
 use bundle_scope_denote::texts::TextSet;
 use bundle_scope_denote::{Denotations, ModuleKind, Reading, denotations};
 use bundle_syntax::Piece;
@@ -33,13 +33,13 @@ pub fn requests_in<'a>(
     alloc: Global,
     pieces: &[Piece<'a>],
     require: bool,
-    external: &[String],
+    external: &TextSet<&str>,
 ) -> Result<Result<Vec<&'a str>, FileFault<'a>>, AllocError>
     ensures requests { IfOk result (λ answer.
         IfOk answer (λ requests.
         (settings : Settings) →
         settings.require ≡ require →
-        settings.external ≡ map string_bytes external.now →
+        HasTexts external.now settings.external →
         map (λ request. request.now) requests.items
         ≡ requests_of settings (is_free (map item_of pieces.now)) (map item_of pieces.now))) }
     ensures judged { IfOk result (λ answer.
@@ -47,9 +47,8 @@ pub fn requests_in<'a>(
         MatchResult answer (λ requests. IsFaultless file (map item_of pieces.now))
         (λ fault. IsFirstTreeFault file (map item_of pieces.now) (fault_in file fault))) }
 {
-    let external = texts(alloc, external)?;
-    let outline = outline_of(alloc, pieces, &external)?;
-    let judged = calls_in(alloc, pieces, require, &external, &outline)?;
+    let outline = outline_of(alloc, pieces, external)?;
+    let judged = calls_in(alloc, pieces, require, external, &outline)?;
     match judged {
         Ok(calls) => Ok(Ok(requests(alloc, &outline.sources, &calls)?)),
         Err(fault) => Ok(Err(fault)),

@@ -47,8 +47,6 @@ fn add_source<'a>(
         sources.push(Source {
             specifier,
             is_external: external.has_text(specifier),
-            is_star: star_at(item.pieces).is_some(),
-            place: item.start,
         })?;
     }
     Ok(())
@@ -76,8 +74,8 @@ fn asked_as<'a>(node: Node<'a>, pieces: &[Piece<'a>]) -> Option<&'a str>
     }
 }
 
-/// What `export * from` asks for at an item.
-pub fn star_at<'a>(pieces: &[Piece<'a>]) -> Option<&'a str>
+// What `export * from` asks for at an item.
+fn star_at<'a>(pieces: &[Piece<'a>]) -> Option<&'a str>
     ensures { text_list result ≡ star_in (map item_of pieces.now) }
 {
     match node_of(pieces) {

@@ -76,10 +76,6 @@ pub struct MemberRead<'a> {
 pub struct Source<'a> {
     pub specifier: &'a str,
     pub is_external: bool,
-    /// It is `export * from`, without a name.
-    pub is_star: bool,
-    /// Where the declaration begins.
-    pub place: usize,
 }
 
 /// The tables of a module, read as an ECMAScript module. All lists stand in the order of the source.

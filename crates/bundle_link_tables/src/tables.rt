@@ -36,13 +36,13 @@ use std::alloc::{AllocError, Global};
 /// those that are undeclared, and these before `with`.
 ///
 /// `denotations` are those of the list as an ECMAScript module, by symbol. `require` says whether literal
-/// calls of `require` are linked, and `external` which texts are external.
+/// calls of `require` are linked, and `external` which texts are external (`external_texts`).
 pub fn tables_of<'a>(
     alloc: Global,
     pieces: &[Piece<'a>],
     denotations: &Denotations<'a>,
     require: bool,
-    external: &[String],
+    external: &TextSet<&str>,
 ) -> Result<Result<Tables<'a>, FileFault<'a>>, AllocError>
     ensures meta { IfOk result (λ answer. IfOk answer (λ tables.
         tables.has_import_meta ≡ the_entries.has_import_meta (map item_of pieces.now))) }
@@ -63,14 +63,15 @@ pub fn tables_of<'a>(
         ≡ each_once (flat_map star_of (the_entries.exports_of (map item_of pieces.now))))) }
     ensures sources { IfOk result (λ answer.
         IfOk answer (λ tables.
+        (texts : List Text) →
+        HasTexts external.now texts →
         map source_asked tables.sources.items
-        ≡ map (told_external (map string_bytes external.now))
-        (declared_requests (map item_of pieces.now)))) }
+        ≡ map (told_external texts) (declared_requests (map item_of pieces.now)))) }
     ensures calls { IfOk result (λ answer.
         IfOk answer (λ tables.
         (settings : Settings) →
         settings.require ≡ require →
-        settings.external ≡ map string_bytes external.now →
+        HasTexts external.now settings.external →
         IsDenotationTable BySymbol Es (map item_of pieces.now) denotations.now →
         map call_entry_of tables.calls.items
         ≡ the_entries.linked_calls settings (is_free (map item_of pieces.now))
@@ -79,7 +80,7 @@ pub fn tables_of<'a>(
         IfOk answer (λ tables.
         (settings : Settings) →
         settings.require ≡ require →
-        settings.external ≡ map string_bytes external.now →
+        HasTexts external.now settings.external →
         IsDenotationTable BySymbol Es (map item_of pieces.now) denotations.now →
         map (λ request. request.now) tables.requests.items
         ≡ requests_of settings (is_free (map item_of pieces.now)) (map item_of pieces.now))) }
@@ -111,8 +112,7 @@ pub fn tables_of<'a>(
         MatchResult answer (λ tables. IsFaultless file (map item_of pieces.now))
         (λ fault. IsFirstTreeFault file (map item_of pieces.now) (fault_in file fault))) }
 {
-    let external = texts(alloc, external)?;
-    let entries = entries_of(alloc, pieces, &external)?;
+    let entries = entries_of(alloc, pieces, external)?;
     let rare = rare_in(alloc, pieces)?;
     let given = &entries.given;
     let first = first_fault(
@@ -126,12 +126,12 @@ pub fn tables_of<'a>(
     if let Some(fault) = first {
         return Ok(Err(fault));
     }
-    let made = made_of(alloc, pieces, denotations, require, &external, &entries)?;
+    let made = made_of(alloc, pieces, denotations, require, external, &entries)?;
     Ok(Ok(put_together(pieces, denotations, entries, made, rare)))
 }
 
-/// The texts, each once.
-pub(crate) fn texts<'t>(alloc: Global, list: &'t [String]) -> Result<TextSet<&'t str>, AllocError>
+/// The texts that are external, each once: made once for all modules whose tables are asked for.
+pub fn external_texts<'t>(alloc: Global, list: &'t [String]) -> Result<TextSet<&'t str>, AllocError>
     ensures { IfOk result (λ texts. HasTexts texts (map string_bytes list.now)) }
 {
     let mut texts = TextSet::new(alloc);

@@ -1,5 +1,5 @@
--- What is merged of modules that were read by their places on the list of a program is merged right for it, and it is
--- refused for contexts only where they may be too few.
+-- What is merged of modules that were read by their places on the list of a program is merged right for it, with
+-- contexts below the next one, and it is refused for contexts only where they may be too few.
 use Rattle.std.proofs.Common.{◌≡◌, ◌↔◌, ℕ, zero, ◌+◌, ◌<◌, Bool, true, false, List, [], ◌∷◌, Option, Some, None, Contains, length, map, refl, sym, ap, ◌∙◌, subst, arith}
 use Rattle.std.specs.Prelude.{slice_get, unwrap_or, if◌then◌else◌}
 use Rattle.std.proofs.lemmas.Bool.{false≢true}
@@ -7,8 +7,9 @@ use Rattle.std.proofs.lemmas.Option.{none-some, same_Some, slice_get_within}
 use Rattle.bundle_syntax.specs.declared.kind.ExportMetadata.{ExportMetadata}
 use Rattle.bundle_syntax.specs.Item.{Item}
 use Rattle.bundle_order_graph.specs.Modules.{Modules, deps}
-use Rattle.bundle_order_sort.specs.Plan.{IsPlanOf}
+use Rattle.bundle_order_graph.specs.Walks.{itself}
 use Rattle.bundle_order_sort.specs.declared.plan.Block.{Block}
+use Rattle.bundle_order_sort.specs.Plan.{IsPlanAsked}
 use Rattle.bundle_order_sort.specs.declared.plan.Plan.{Plan}
 use Rattle.bundle_rules.specs.Bundle.{AsCall, AsModule, Hooks, form_of}
 use Rattle.bundle_rules.specs.Entries.{has_import_meta}
@@ -32,10 +33,10 @@ use Rattle.bundle_link.proofs.NumbersLemmas.{there_is}
 use Rattle.bundle_merge_theory.specs.joined.Joined.{joined_items}
 use Rattle.bundle_scope_names.specs.fit.Fits.{AreFit}
 use Rattle.bundle_scope_names.specs.fit.Sorts.{AProperty, Many, slot}
-use Rattle.bundle_merge_theory.specs.made.Given.{HookAnswer, Fresh, Written, WrittenIn}
+use Rattle.bundle_merge_theory.specs.made.Given.{HookAnswer, Fresh, TopOf, Written, WrittenIn}
 use Rattle.bundle_merge_theory.specs.made.Made.{AreMade}
 use Rattle.bundle_merge_theory.proofs.answered.Hooks.{all-held}
-use Rattle.bundle_merge_theory.specs.made.Alone.{AreTreesSound, IsHolder, written_in}
+use Rattle.bundle_merge_theory.specs.made.Alone.{AreTreesSound, IsHolder, top_of, written_in}
 use Rattle.bundle_merge_theory.specs.planned.Blocks.{block_of}
 use Rattle.bundle_merge_theory.specs.planned.Decided.{AreDecided, Decided, DecidedBlock, index_of, numbers_from}
 use Rattle.bundle_merge_theory.specs.planned.Placed.{id_at}
@@ -63,7 +64,7 @@ use Rattle.bundle_merge_names.specs.declared.part.BundleInput.{BundleInput}
 use Rattle.bundle_merge_names.specs.declared.part.BundleModule.{BundleModule}
 use Rattle.bundle_merge_items.specs.Added.{module_item_lists}
 use Rattle.bundle_merge_items.specs.Adds.{AreAnswered, any_hooks, decided_of}
-use Rattle.bundle_merge_items.specs.Merged.{AreBlocksOnce}
+use Rattle.bundle_merge_items.specs.Merged.{AreBlocksOnce, IsMergedOf}
 use Rattle.bundle_merge_items.specs.declared.merge.MergedModule.{MergedModule}
 use Rattle.bundle_merge_items.proofs.LackLemmas.{labels-lack, refused-lacks}
 use Rattle.bundle_merge_items.proofs.NeedsLemmas.{needs-by}
@@ -71,8 +72,9 @@ use Rattle.bundle_merge_items.proofs.Once.{blocks-once}
 use Rattle.bundle_merge.specs.Handed.{AreObjectsApart, StandsInObject, StandsInside, its_inside, its_name}
 use Rattle.bundle_merge.specs.Placed.{AreModulesRight, AreReadAndLinked, HasFront, nothing, object}
 use Rattle.bundle_merge.specs.Ready.{IsMergedAs}
+use Rattle.bundle_merge.specs.Standing.{HasContextsBelow}
 use Rattle.bundle_merge.proofs.Places as places
-use Rattle.bundle_merge.proofs.Merging.{made-merged}
+use Rattle.bundle_merge.proofs.Merging.{made-below, made-merged}
 
 -- a bundle of parts that were read so
 pub record IsReadBundle (p : Program) (hooks : Hooks) (list : List ℕ) (links : List LinkModule) (parts : List BundleModule) (linking : Linking) (plan : Plan) (local : ℕ → ℕ) (answers : ℕ → Option HookAnswer) (bundle : BundleInput) : Type 0 where
@@ -171,7 +173,7 @@ module _ (p : Program) (list : List ℕ) (right : AreModulesRight p list) (links
       (common_js_on q p (λ a b. IsModuleAt list b a) (flip (places.alike p list right links parts are)) k
       m at is)
 
-  module _ (linked : IsLinkingOf q linking) (handed : HandsOver q (numbers_below (length links)) linking) (g : Modules) (graph : (m : ℕ) → deps g m ≡ requested p m) (plan : Plan) (planned : IsPlanOf g p.entry list plan) (hooks : Hooks) (local : ℕ → ℕ) (answers : ℕ → Option HookAnswer) (bundle : BundleInput) (b : IsReadBundle p hooks list links parts linking plan local answers bundle) where
+  module _ (linked : IsLinkingOf q linking) (handed : HandsOver q (numbers_below (length links)) linking) (g : Modules) (graph : (m : ℕ) → deps g m ≡ requested p m) (plan : Plan) (planned : IsPlanAsked p.settings.in_standard_order g p.entry list plan) (hooks : Hooks) (local : ℕ → ℕ) (answers : ℕ → Option HookAnswer) (bundle : BundleInput) (b : IsReadBundle p hooks list links parts linking plan local answers bundle) where
     modules : AreModules q
     modules =
         places.modules-are p list right links parts are
@@ -468,26 +470,43 @@ module _ (p : Program) (list : List ℕ) (right : AreModulesRight p list) (links
         linked-by p q list g by-places linking (λ k. has_import_meta (tree_of q k))
         (λ k. length (own_statements (tree_of q k))) linked handed-on modules told-there
 
+    -- what is decided of them
+    abbrev d : Decided
+    d = decided_by linking (λ k. has_import_meta (tree_of q k))
+        (λ k. length (own_statements (tree_of q k))) n (map block_of plan.blocks.items)
+
+    -- what is merged of them
+    abbrev IsMergedOfThem : MergedModule → Type 0
+    IsMergedOfThem merged =
+        IsMergedOf q (numbers_from zero n) answers bundle (λ k. has_import_meta (tree_of q k))
+        (λ k. length (own_statements (tree_of q k))) merged
+
+    merged-of-them : (merged : MergedModule) → IsMergedAs bundle merged → IsMergedOfThem merged
+    merged-of-them merged made =
+        made q (numbers_from zero n) answers (λ k. has_import_meta (tree_of q k))
+        (λ k. length (own_statements (tree_of q k))) is-sound are-parts are-once are-answered
+        are-told
+
+    items-made : (merged : MergedModule) (its : IsMergedOfThem merged) →
+        AreMade q hooks (numbers_from zero n) its.context answers d its.orders its.items
+    items-made merged its =
+        subst (λ plan_d. AreMade q hooks (numbers_from zero n) its.context answers plan_d its.orders its.items)
+        decided-same
+        (all-held q any_hooks hooks (numbers_from zero n) its.context answers
+        (λ k properties told. absurd (none-fresh k properties told))
+        (λ k ctxt notes properties told. (object-by k ctxt notes properties told).0)
+        _ its.orders its.items its.made)
+
     -- what is merged of them is merged right
     pub is-merged : (merged : MergedModule) → IsMergedAs bundle merged →
         IsMerged (λ x. x) local p hooks (joined_items (module_item_lists merged.tree))
     is-merged merged made =
-        let its =
-        made q (numbers_from zero n) answers (λ k. has_import_meta (tree_of q k))
-        (λ k. length (own_statements (tree_of q k))) is-sound are-parts are-once are-answered
-        are-told in
-        let all =
-        all-held q any_hooks hooks (numbers_from zero n) its.context answers
-        (λ k properties told. absurd (none-fresh k properties told))
-        (λ k ctxt notes properties told. (object-by k ctxt notes properties told).0)
-        _ its.orders its.items its.made in
+        let its = merged-of-them merged made in
         subst (λ l. IsMerged (λ x. x) local p hooks (joined_items l)) (sym its.is)
         (made-merged p q list g by-places known (places.are-moved p list right links parts are)
         linking (λ k. has_import_meta (tree_of q k)) (λ k. length (own_statements (tree_of q k)))
         are-linked plan planned hooks its.context answers its.orders its.items
-        (subst (λ d. AreMade q hooks (numbers_from zero n) its.context answers d its.orders its.items)
-        decided-same all)
-        its.apart local
+        (items-made merged its) its.apart local
         (λ k reached.
         (let below = (below-reached k).0 reached in
         let m = there_is list k below in
@@ -496,11 +515,21 @@ module _ (p : Program) (list : List ℕ) (right : AreModulesRight p list) (links
         its.tops k part.0 there ∙ b.locals k m.0 part.0 m.1 part.1
         ∙ ap (λ o. local (unwrap_or o zero)) (sym m.1))))
 
-    -- ---- what needs too many contexts
-    abbrev d : Decided
-    d = decided_by linking (λ k. has_import_meta (tree_of q k))
-        (λ k. length (own_statements (tree_of q k))) n (map block_of plan.blocks.items)
+    -- and what stands in it has contexts below those that are left
+    pub is-below : (merged : MergedModule) → IsMergedAs bundle merged →
+        HasContextsBelow (position merged.contexts) (joined_items (module_item_lists merged.tree))
+    is-below merged made =
+        let its = merged-of-them merged made in
+        let above = its.apart.own (TopOf q.entry) (top_of itself) in
+        let below = its.below (TopOf q.entry) (top_of itself) in
+        subst (λ l. HasContextsBelow (position merged.contexts) (joined_items l)) (sym its.is)
+        (made-below p q list g by-places known (places.are-moved p list right links parts are)
+        linking (λ k. has_import_meta (tree_of q k)) (λ k. length (own_statements (tree_of q k)))
+        are-linked plan planned hooks its.context answers its.orders its.items
+        (items-made merged its) its.apart (position merged.contexts) (omega (arith, above, below))
+        its.below)
 
+    -- ---- what needs too many contexts
     are-decided : AreDecided q AsModule d
     are-decided =
         decided p q list g by-places linking (λ k. has_import_meta (tree_of q k))

@@ -2,6 +2,7 @@
 use Rattle.std.proofs.Common.{◌≡◌, ℕ, zero, suc, ◌-◌, ◌<◌, List, [], ◌∷◌, ◌++◌, Option, Some, None, length, map, refl, sym, ap, ◌∙◌, subst, inl, inr}
 use Rattle.std.specs.Prelude.{IfSome, flat_map, option_map, slice_get}
 use Rattle.std.specs.List.{AllZip}
+use Rattle.std.proofs.lemmas.Bool.{false≢true}
 use Rattle.std.proofs.lemmas.List.{length-map}
 use Rattle.std.proofs.lemmas.Option.{none-some, same_Some, slice_get-map}
 use Rattle.std.proofs.lemmas.Slice.Zip.{AllZip-long}
@@ -10,7 +11,7 @@ use Rattle.bundle_tree_names.specs.FileName.{name_of, Name as FileName}
 use Rattle.bundle_tree_names.specs.declared.error.Error.{Error}
 use Rattle.bundle_tree_names.specs.declared.error.Error.TheVariants.{OutOfMemory}
 use Rattle.bundle_syntax.specs.Item.{Item}
-use Rattle.bundle_order_sort.specs.Plan.{IsPlanOf}
+use Rattle.bundle_order_sort.specs.Plan.{IsPlanAsked, IsPlanOf}
 use Rattle.bundle_order_sort.specs.declared.plan.Plan.{Plan}
 use Rattle.bundle_rules.specs.Bundle.{Hooks}
 use Rattle.bundle_rules.specs.Faults.{Fault, IsFaultless, IsFirstTreeFault, NeedsTooManyContexts, fault_of}
@@ -44,6 +45,7 @@ use Rattle.bundle_merge.specs.Prepared.{items_of_each}
 use Rattle.bundle_merge.specs.Read.{own_list}
 use Rattle.bundle_merge.specs.Ready.{IsMergeable, IsMergedAs, IsRefusedAs, TakesAs}
 use Rattle.bundle_merge.specs.Refusals.{IsRefusalOfRead, MayLackNames}
+use Rattle.bundle_merge.specs.Standing.{HasContextsBelow}
 use Rattle.bundle_merge.specs.declared.read.ReadModule.{ReadModule}
 use Rattle.bundle_merge.proofs.Bundle as bundles
 use Rattle.bundle_merge.proofs.Bundle.{IsReadBundle}
@@ -120,14 +122,26 @@ module _ (p : Program) (hooks : Hooks) (local : ℕ → ℕ) (linker : Linker) (
   abbrev q : Program
   q = places.by_place p list its.right links.links bundle.parts.now are
 
-  begun : IsPlanOf linker.linked.graph p.entry list plan
-  begun = subst (λ entry. IsPlanOf linker.linked.graph entry list plan) (sym its.begins) planned
+  begun : IsPlanAsked p.settings.in_standard_order linker.linked.graph p.entry list plan
+  begun = record {
+    by_requests = λ e.
+        subst (λ entry. IsPlanOf linker.linked.graph entry list plan) (sym its.begins) planned;
+    of_each = λ asked. absurd (false≢true (sym its.by_needs ∙ asked));
+  }
 
   -- what is merged of it
   pub merged-read : (merged : MergedModule) → IsMergedAs bundle merged →
       IsMerged (λ x. x) local p hooks (joined_items (module_item_lists merged.tree))
   merged-read merged made =
       bundles.is-merged p list its.right links.links bundle.parts.now are linking
+      (links.linked q program) (links.handed q program) linker.linked.graph its.graph plan begun
+      hooks local its.answers bundle is-bundle merged made
+
+  -- and what stands in it has contexts below those that are left
+  pub below-read : (merged : MergedModule) → IsMergedAs bundle merged →
+      HasContextsBelow (position merged.contexts) (joined_items (module_item_lists merged.tree))
+  below-read merged made =
+      bundles.is-below p list its.right links.links bundle.parts.now are linking
       (links.linked q program) (links.handed q program) linker.linked.graph its.graph plan begun
       hooks local its.answers bundle is-bundle merged made
 
@@ -164,6 +178,12 @@ module _ (p : Program) (hooks : Hooks) (local : ℕ → ℕ) (linker : Linker) (
       IsMerged (λ x. x) local p hooks (joined_items (module_item_lists merged.tree))
   made-read merged made =
       merged-read p hooks local linker next reads its linking links plan planned made.bundle
+      made.read merged made.made
+
+  pub standing-read : (merged : MergedModule) → IsMadeOfRead reads linking plan.blocks.items next merged →
+      HasContextsBelow (position merged.contexts) (joined_items (module_item_lists merged.tree))
+  standing-read merged made =
+      below-read p hooks local linker next reads its linking links plan planned made.bundle
       made.read merged made.made
 
   pub taken-read : (merged : MergedModule) → IsMadeOfRead reads linking plan.blocks.items next merged →
@@ -259,6 +279,7 @@ module _ (p : Program) (hooks : Hooks) (contexts : ℕ → Contexts) (next : ℕ
       pub read-in : AreReadIn (cleared_program p) hooks linker (λ m. (contexts m).local) next reads
       read-in = record {
         links = w.of.modules.links;
+        by_needs = w.by_needs;
         begins = w.of.modules.begins;
         graph = λ m. w.of.linked.graph m ∙ ap (λ r. r m) (sym (requested-cleared p));
         right = ready.are-right p hooks contexts next prepared linker w prepares fits;

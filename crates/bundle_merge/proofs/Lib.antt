@@ -3,9 +3,11 @@ pub mod OwnLemmas
 pub mod KindLemmas
 pub mod HandedLemmas
 pub mod Faultless
+pub mod Standing
 pub mod Merging
 pub mod Places
 pub mod Objects
 pub mod Bundle
+pub mod Known
 pub mod Ready
 pub mod Joining

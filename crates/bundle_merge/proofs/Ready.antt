@@ -50,7 +50,6 @@ use Rattle.bundle_link.proofs.ClearedNodes.{cleared-module-tree}
 use Rattle.bundle_link.proofs.DefaultLemmas.{default-once-cleared}
 use Rattle.bundle_link.proofs.LeadLemmas.{told-led}
 use Rattle.bundle_link.proofs.NumberLemmas.{at-place, held, place-there}
-use Rattle.bundle_link.proofs.NumberedModuleLemmas.{mapped}
 use Rattle.bundle_link.proofs.RequestLemmas.{requests_to}
 use Rattle.bundle_link.proofs.ToldLemmas.{kind_told}
 use Rattle.bundle_link.specs.Programs.{IsTransformedOf}
@@ -72,6 +71,7 @@ use Rattle.bundle_merge.specs.Handed.{AreObjectsApart, StandsInObject, its_insid
 use Rattle.bundle_merge.specs.Placed.{AreModulesRight, HasFront, IsModuleRead, nothing, object}
 use Rattle.bundle_merge.specs.Read.{AreAllKnown, IsModuleKnown, IsReadAt, IsReadModuleOf, first_declared, name_held, item_list, own_list, without_front}
 use Rattle.bundle_merge.specs.Ready.{IsMergeable}
+use Rattle.bundle_merge.proofs.Known.{all-there, at-number as numbered-there}
 use Rattle.bundle_merge.proofs.Objects as o
 use Rattle.bundle_merge.proofs.Objects.{AnswersFit}
 use Rattle.bundle_merge.proofs.Places.{one-place}
@@ -239,19 +239,14 @@ module _ (p : Program) (hooks : Hooks) (contexts : ℕ → Contexts) (next : ℕ
   -- the module of the linker under a number that has a place
   at-number : (m k : ℕ) → slice_get ids k ≡ Some m →
       (its : TransformedModule) × (slice_get linker.modules.items k ≡ Some its) × (its.id ≡ m)
-  at-number m k at =
-      mapped (λ (its : TransformedModule). its.id) linker.modules.items k m
-      (ap (λ (l : List ℕ). slice_get l k) (sym w.of.numbered) ∙ at)
+  at-number = numbered-there p contexts linker w
 
   its-place : (m : ℕ) → IsReached p m → (k : ℕ) × (module_place ids m ≡ Some k)
   its-place m reached = place-there ids m (l.listed m ((l.reached m).1 reached))
 
   -- all modules of the list are there
   pub all-known : AreAllKnown linker list
-  all-known m there =
-      let k = place-there ids m (l.listed m there) in
-      let its = at-number m k.0 (at-place ids m k.0 k.1) in
-      (its.0, record { place = k.0; numbered = k.1; there = its.1 })
+  all-known = all-there p contexts linker w
 
   -- what is known under a number is its module
   known-number : (m : ℕ) (known : TransformedModule) → IsModuleKnown linker m known → known.id ≡ m

@@ -1,5 +1,5 @@
 -- What was read of a module, as it is handed on to be linked and to be merged.
-use Rattle.std.specs.Prelude.{◌≡◌, ◌≢◌, ◌⊎◌, ◌-◌, ◌<◌, ℕ, List, [], Option, Some, None, length, slice_get}
+use Rattle.std.specs.Prelude.{◌≡◌, ◌≢◌, ◌⊎◌, ◌-◌, ◌<◌, ℕ, false, List, [], Option, Some, None, length, slice_get}
 use Rattle.std.specs.List.{AllZip}
 use Rattle.bundle_syntax.specs.declared.kind.ExportMetadata.{ExportMetadata}
 use Rattle.bundle_syntax.specs.Item.{Item}
@@ -98,6 +98,7 @@ pub record AreObjectsApart (list : List ℕ) (local : ℕ → ℕ) (next : ℕ)
 pub record AreReadIn (p : Program) (hooks : Hooks) (linker : Linker) (local : ℕ → ℕ) (next : ℕ)
     (reads : List ReadModule) : Type 0 where
   pub links : Links linker.config p.settings
+  pub by_needs : p.settings.in_standard_order ≡ false
   pub begins : p.entry ≡ linker.entry
   pub graph : (m : ℕ) → deps linker.linked.graph m ≡ requested p m
   pub right : AreModulesRight p linker.linked.list.items

@@ -1,5 +1,5 @@
 -- When the modules of a linker are those of a program whose prepared items are merged.
-use Rattle.std.specs.Prelude.{◌≡◌, ℕ, Bool, List, Option, Contains, length, map}
+use Rattle.std.specs.Prelude.{◌≡◌, ℕ, Bool, false, List, Option, Contains, length, map}
 use Rattle.std.specs.List.{flat_map}
 use Rattle.bundle_tree_ast.specs.declared.expr.Expr.{Expr}
 use Rattle.bundle_tree_ast.specs.declared.prop.KeyValueProp.{KeyValueProp}
@@ -39,9 +39,11 @@ abbrev pub hooks_by : Answering → Hooks
 hooks_by given =
     record { may_answer = λ file is_entry properties. Contains (map listed_properties (given file is_entry)) properties }
 
--- the modules of a linker are those of a program, with these contexts, and each request leads to a module
+-- the modules of a linker are those of a program, with these contexts, each request leads to a
+-- module, and the standard's order is not asked for: a linker has no such setting
 pub record IsMergeable (p : Program) (contexts : ℕ → Contexts) (linker : Linker) : Type 0 where
   pub of : IsLinkerOf p linker
+  pub by_needs : p.settings.in_standard_order ≡ false
   pub leads : LeadsAll p
   pub locals : (its : TransformedModule) →
       Contains linker.modules.items its →

@@ -7,6 +7,7 @@ use Rattle.bundle_tree_names.specs.declared.error.Error.{Error}
 use Rattle.bundle_tree_names.specs.declared.error.Error.TheVariants.{OutOfMemory}
 use Rattle.bundle_rules.specs.Bundle.{Hooks}
 use Rattle.bundle_rules.specs.Faults.{NeedsTooManyContexts}
+use Rattle.bundle_rules.specs.Parts.{Owned, items_in}
 use Rattle.bundle_rules.specs.Program.{Program}
 use Rattle.bundle_link.specs.declared.link.Linker.{Linker}
 use Rattle.bundle_link.specs.declared.transformed.TransformedModule.{TransformedModule}
@@ -16,6 +17,7 @@ use Rattle.bundle_merge_names.specs.Numbers.{position}
 use Rattle.bundle_merge_names.specs.declared.context.FreshContexts as numbers
 use Rattle.bundle_merge_names.specs.declared.error.MergeError.{MergeError}
 use Rattle.bundle_merge_names.specs.declared.error.MergeError.TheVariants as e
+use Rattle.bundle_merge_items.specs.Added.{module_item_lists}
 use Rattle.bundle_merge.specs.Read.{IsModuleKnown, own_list}
 
 -- memory ran out, or contexts of this file do not suffice
@@ -56,6 +58,16 @@ pub record HasOwnFault (linker : Linker) (list : List ℕ) (copies : List Module
   pub at : slice_get list place ≡ Some number
   pub there : slice_get copies place ≡ Some items
   pub is_known : IsModuleKnown linker number known
+  pub told : IsTreeRefusal (name_of known.file_name) (own_list items.body.items) error
+
+-- of a module on the linker's list the first fault is told, in its file, that its own items have
+-- among those that are prepared of it
+pub record HasPreparedFault (linker : Linker) (prepared : List Owned) (error : Error) : Type 0 where
+  pub number : ℕ
+  pub known : TransformedModule
+  pub is_known : IsModuleKnown linker number known
+  pub items : Module
+  pub are : module_item_lists items ≡ items_in prepared number
   pub told : IsTreeRefusal (name_of known.file_name) (own_list items.body.items) error
 
 -- memory ran out, or that is told

@@ -1,6 +1,6 @@
 //! One module of the modules of a linker: they are read, linked and merged by their places on its list.
 
-ghost use Rattle.std.specs.Prelude.{◌≡◌, ◌≤◌, ℕ, Contains, IfErr, IfOk, IfSome, List, OnErr, OnOk, Some, length, map, option_map, slice_get};
+ghost use Rattle.std.specs.Prelude.{◌≡◌, ◌⊎◌, ◌≤◌, ℕ, Contains, IfErr, IfOk, IfSome, List, OnErr, OnOk, Some, length, map, option_map, slice_get};
 ghost use Rattle.std.specs.List.{AllZip};
 ghost use Rattle.bundle_tree_names.specs.FileName.{name_of};
 ghost use Rattle.bundle_syntax.specs.Item.{Item};
@@ -19,7 +19,8 @@ ghost use Rattle.bundle_merge.specs.Handed.{AreReadFrom, AreReadIn, IsLinkRead, 
 ghost use Rattle.bundle_merge.specs.Prepared.{items_of_each};
 ghost use Rattle.bundle_merge.specs.Read.{AreAllKnown, IsModuleKnown};
 ghost use Rattle.bundle_merge.specs.Ready.{Answering, IsMergeable, hooks_by};
-ghost use Rattle.bundle_merge.specs.Refusals.{IsLack, IsLackAfter, IsMergeRefusal, IsRefusalOfRead, MayLack, MayLackNames, MayRefuseMerge};
+ghost use Rattle.bundle_merge.specs.Standing.{HasContextsBelow};
+ghost use Rattle.bundle_merge.specs.Refusals.{HasOwnFault, HasPreparedFault, IsLack, IsLackAfter, IsMergeRefusal, IsRefusalOfRead, MayLack, MayLackNames, MayRefuseMerge};
 
 use crate::prepared::{copies_of, places_of};
 use crate::read::{ReadModule, read_module};
@@ -38,7 +39,7 @@ use std::alloc::{AllocError, Global};
 
 /// The items of all modules that the entry of a linker reaches, as one module's, the body of the entry, in the order
 /// in which they are to stand. A name that a module declares has its local context, a global 1, and any other name a
-/// context from the next one on.
+/// context from the next one on. The next context afterwards is above each that stands in them.
 ///
 /// `prepared` holds the resolved items of each of these modules: names of the top have the local context, globals 1,
 /// no two modules have another context in common, and nothing has the local context of another module. Where
@@ -63,7 +64,16 @@ pub fn merge_into_entry<'a>(
         IsPrepared p (hooks_by given) its contexts.old.next prepared.now →
         IsMerged (λ x. x) (λ m. (its m).local) p (hooks_by given) (Parts.body_of merged)) }
     ensures given { OnOk result (HasGiven contexts.old contexts.new) }
+    ensures below { IfOk result (λ merged.
+        (p : Program) (given : Answering) (its : ℕ → ModuleContexts) →
+        IsMergeable p its linker.now →
+        IsPrepared p (hooks_by given) its contexts.old.next prepared.now →
+        HasContextsBelow contexts.new.next (Parts.body_of merged)) }
     ensures refused { IfErr result (MayRefuseMerge contexts.old.file linker.now.modules.items) }
+    ensures told { IfErr result (λ refusal. (p : Program) (its : ℕ → ModuleContexts) →
+        IsMergeable p its linker.now →
+        IsLack contexts.old.file refusal
+        ⊎ HasPreparedFault linker.now (Parts.in_order prepared.now) refusal) }
     ensures lacks { IfErr result (λ refusal.
         (p : Program) (given : Answering) (its : ℕ → ModuleContexts) →
         IsMergeable p its linker.now →
@@ -93,7 +103,18 @@ fn joined<'a>(
         IsPrepared p (hooks_by given) its contexts.now.next prepared.now →
         places.now.keys ≡ numbers_once linker.now.linked.list.items →
         IsMerged (λ x. x) (λ m. (its m).local) p (hooks_by given) (tree.joined_items (module_item_lists made.0))) }
+    ensures below { IfOk result (λ made.
+        (p : Program) (given : Answering) (its : ℕ → ModuleContexts) →
+        IsMergeable p its linker.now →
+        IsPrepared p (hooks_by given) its contexts.now.next prepared.now →
+        places.now.keys ≡ numbers_once linker.now.linked.list.items →
+        HasContextsBelow made.1 (tree.joined_items (module_item_lists made.0))) }
     ensures refused { IfErr result (MayRefuseMerge contexts.now.file linker.now.modules.items) }
+    ensures told { IfErr result (λ refusal. (p : Program) (its : ℕ → ModuleContexts) →
+        IsMergeable p its linker.now →
+        places.now.keys ≡ numbers_once linker.now.linked.list.items →
+        IsLack contexts.now.file refusal
+        ⊎ HasPreparedFault linker.now (Parts.in_order prepared.now) refusal) }
     ensures lacks { IfErr result (λ refusal.
         (p : Program) (given : Answering) (its : ℕ → ModuleContexts) →
         IsMergeable p its linker.now →
@@ -122,7 +143,20 @@ fn joined_of<'a>(
         map module_item_lists copies.now
         ≡ items_of_each (Parts.in_order prepared) linker.now.linked.list.items →
         IsMerged (λ x. x) (λ m. (its m).local) p (hooks_by given) (tree.joined_items (module_item_lists made.0))) }
+    ensures below { IfOk result (λ made.
+        (p : Program) (given : Answering) (its : ℕ → ModuleContexts) (prepared : Parts.Parts) →
+        IsMergeable p its linker.now →
+        IsPrepared p (hooks_by given) its contexts.now.next prepared →
+        places.now.keys ≡ linker.now.linked.list.items →
+        map module_item_lists copies.now
+        ≡ items_of_each (Parts.in_order prepared) linker.now.linked.list.items →
+        HasContextsBelow made.1 (tree.joined_items (module_item_lists made.0))) }
     ensures refused { IfErr result (MayRefuseMerge contexts.now.file linker.now.modules.items) }
+    ensures told { IfErr result (λ refusal. (p : Program) (its : ℕ → ModuleContexts) →
+        IsMergeable p its linker.now →
+        length copies.now ≡ length linker.now.linked.list.items →
+        IsLack contexts.now.file refusal
+        ⊎ HasOwnFault linker.now linker.now.linked.list.items copies.now refusal) }
     ensures lacks { IfErr result (λ refusal.
         (p : Program) (given : Answering) (its : ℕ → ModuleContexts) (prepared : Parts.Parts) →
         IsMergeable p its linker.now →
@@ -159,10 +193,11 @@ fn read_all<'a, 'x>(
         (length copies.now) reads.items) }
 {
     let list = linker.list();
+    let external = linker.externals()?;
     let mut reads = Vec::new(alloc);
     for (place, module) in copies.iter().enumerate() {
         if let Some(known) = module_at(linker, list, place) {
-            reads.push(read_module(alloc, linker, known, places, module)?)?;
+            reads.push(read_module(alloc, linker, known, places, &external, module)?)?;
         }
     }
     Ok(reads)
@@ -192,6 +227,9 @@ fn merged_of<'a, 'x>(
     ensures merged { IfOk result (λ merged. (p : Program) (given : Answering) (local : ℕ → ℕ) →
         AreReadIn p (hooks_by given) linker.now local next reads.now →
         IsMerged (λ x. x) local p (hooks_by given) (tree.joined_items (module_item_lists merged.tree))) }
+    ensures below { IfOk result (λ merged. (p : Program) (given : Answering) (local : ℕ → ℕ) →
+        AreReadIn p (hooks_by given) linker.now local next reads.now →
+        HasContextsBelow (position merged.contexts) (tree.joined_items (module_item_lists merged.tree))) }
     ensures taken { IfOk result (λ merged. (p : Program) (given : Answering) (local : ℕ → ℕ) →
         AreReadIn p (hooks_by given) linker.now local next reads.now →
         position merged.contexts ≡ 4294967296 →
@@ -270,6 +308,7 @@ fn parts_of<'t, 'x>(
 // The module of what was merged, and the next context.
 fn with_next(merged: MergedModule, contexts: &Contexts) -> Result<(Module, u32), Error>
     ensures given { IfOk result (λ made. contexts.now.next ≤ made.1) }
+    ensures above { IfOk result (λ made. position merged.contexts ≤ made.1) }
     ensures made { IfOk result (λ made. made.0 ≡ merged.tree) }
     ensures refused { IfErr result (IsLack contexts.now.file) }
     ensures after { IfErr result (IsLackAfter contexts.now.file merged.contexts) }

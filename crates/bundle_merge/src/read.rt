@@ -13,7 +13,7 @@ ghost use Rattle.bundle_rules.specs.Program.{Program};
 ghost use Rattle.bundle_rules.specs.Scopes as scopes;
 ghost use Rattle.bundle_scope_denote.specs.Kinds.{kind_as};
 ghost use Rattle.bundle_link.specs.Programs.{IsLinkerOf};
-ghost use Rattle.bundle_link.specs.Refusals.{IsTreeRefusal};
+ghost use Rattle.bundle_link.specs.Refusals.{HasExternals, IsTreeRefusal};
 ghost use Rattle.bundle_merge_names.specs.declared.part.BundleModule as part;
 ghost use Rattle.bundle_merge.specs.Handed.{IsLinkRead, IsPartRead};
 ghost use Rattle.bundle_merge.specs.Read.{IsReadModuleOf, first_declared, name_held, own_list};
@@ -23,6 +23,7 @@ use bundle_link::link::{Linker, TransformedModule};
 use bundle_link_tables::Tables;
 use bundle_link_targets::LinkModule;
 use bundle_merge_items::BundleModule;
+use bundle_scope_denote::texts::TextSet;
 use bundle_scope_denote::{Denotations, ModuleKind, Reading, denotations};
 use bundle_syntax::{Node, Piece, Role};
 use bundle_tree_ast::{Module, ModuleItem};
@@ -82,21 +83,24 @@ impl<'x> ReadModule<'x> {
     }
 }
 
-/// A module of a linker, read from its prepared items, where the modules on the linker's list have these places.
+/// A module of a linker, read from its prepared items, where the modules on the linker's list have these places, and these
+/// are the texts that are external.
 pub(crate) fn read_module<'a, 'x>(
     alloc: Global,
     linker: &Linker<'a>,
     known: &TransformedModule<'a>,
     places: &IndexSet<ModuleId>,
+    external: &TextSet<&str>,
     tree: &'x Module,
 ) -> Result<ReadModule<'x>, Error>
+    requires { HasExternals external.now linker.now.config }
     ensures refused { IfErr result
         (IsTreeRefusal (name_of known.now.file_name) (own_list tree.now.body.items)) }
     ensures read { IfOk result (λ read. (part : part.BundleModule) → IsPartRead read part →
         IsReadModuleOf linker.now known.now places.now.keys tree.now.body.items part) }
 {
     let own = own_of(alloc, &tree.body)?;
-    let tables = linker.tables_of(&known.file_name, &own.pieces)?;
+    let tables = linker.tables_of(&known.file_name, &own.pieces, external)?;
     let kind = kind_of(linker, known.id);
     let names = denotations(alloc, &own.pieces, kind, Reading::BySymbol)?;
     let leads = leads_of(alloc, &known.deps, places)?;

@@ -9,4 +9,5 @@ pub mod Sorted
 pub mod Aliased
 pub mod Chains
 pub mod Made
+pub mod Error
 pub mod Pairs

@@ -24,19 +24,34 @@ use bundle_tree_list::pieces;
 use bundle_tree_names::{ModuleId, SyntaxContext};
 use bundle_tree_places::Name;
 use std::alloc::{AllocError, Global};
-use std::slice;
-use thiserror::Error;
+use std::{fmt, slice};
 
 /// Why aliases are not inlined.
-#[derive(Clone, Copy, PartialEq, Eq, Debug, Drop, Error)]
+#[derive(Clone, Copy, PartialEq, Eq, Debug, Drop)]
 pub enum InlineError {
     /// Some chain of aliases leads back to where it began.
-    #[error("aliases form a cycle")]
     Cycle,
     /// Memory ran out.
-    #[error("out of memory")]
     Memory,
 }
+
+/// Writes why.
+impl fmt::Display for InlineError {
+    ghost use Rattle.std.specs.Prelude.{Some};
+    ghost use Rattle.bundle_merge_modules.specs.Error.{shown};
+
+    ghost output = { λ refusal. Some (shown refusal) };
+
+    fn fmt<W: fmt::Write>(&self, f: &mut fmt::Formatter<W>) -> fmt::Result {
+        let reason = match self {
+            InlineError::Cycle => "aliases form a cycle",
+            InlineError::Memory => "out of memory",
+        };
+        write!(f, "{reason}")
+    }
+}
+
+impl std::error::Error for InlineError {}
 
 /// Takes out the aliases: the linker's own `const` of one declarator of two identifiers, `a = b`. Each identifier that
 /// is an alias becomes the end of its chain. Refused with `Cycle` only where aliases form a cycle, and else only where

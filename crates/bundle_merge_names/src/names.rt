@@ -14,12 +14,12 @@ ghost use Rattle.bundle_merge_names.specs.declared.error.MergeError.TheVariants.
 use crate::context::{FreshContexts, GLOBAL};
 use crate::error::MergeError;
 use bundle_link_targets::TargetRef;
+use bundle_scope_denote::texts::TextMap;
 use bundle_tree_places::Name;
-use indexmap::IndexMap;
 use std::alloc::{AllocError, Global};
 
 /// What a name that the linker gives stands for.
-#[derive(Clone, Copy, PartialEq, Eq, Hash)]
+#[derive(Clone, Copy, PartialEq, Eq, PartialOrd, Ord)]
 pub enum Label<'a> {
     /// What names of modules stand for, but for a declaration of a module, which keeps its own.
     Of(TargetRef<'a>),
@@ -43,7 +43,8 @@ pub struct BundleNames<'a> {
     scopes: Vec<Vec<Option<u32>>>,
     // and of those in the list of what the hook answered for it.
     answered: Vec<Vec<Option<u32>>>,
-    labels: IndexMap<Label<'a>, Name<'a>>,
+    // A specifier and a name in a label are chosen by strangers, so labels are found by their order.
+    labels: TextMap<Label<'a>, Name<'a>>,
     // The contexts that are still free.
     contexts: FreshContexts,
 }
@@ -74,7 +75,7 @@ impl<'a> BundleNames<'a> {
             locals: Vec::new(alloc),
             scopes: Vec::new(alloc),
             answered: Vec::new(alloc),
-            labels: IndexMap::new(alloc),
+            labels: TextMap::new(alloc),
             contexts,
         }
     }

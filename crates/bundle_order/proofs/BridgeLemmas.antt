@@ -1,5 +1,5 @@
 -- A good order of items of which all references were found is a good order of their group.
-use Rattle.std.proofs.Common.{◌≡◌, ◌↔◌, Bool, true, false, cond, ℕ, ◌<◌, ◌⊎◌, List, map, slice_get, Contains, Option, Some, None, refl, sym, ap, ◌∙◌, subst, inl, inr, arith}
+use Rattle.std.proofs.Common.{◌≡◌, ◌↔◌, Bool, true, false, cond, ℕ, ◌<◌, ◌≤◌, ◌⊎◌, List, map, slice_get, Contains, Option, Some, None, refl, sym, ap, ◌∙◌, subst, inl, inr, arith}
 use Rattle.std.specs.Option.{option_map}
 use Rattle.std.proofs.lemmas.Bool.{false≢true}
 use Rattle.std.proofs.lemmas.Option.{none-some, same_Some, slice_get-map}
@@ -92,4 +92,7 @@ module _ (g : Group) (items : List SharedItem) (lists : List (List ℕ)) (found 
     needs = λ s t needed before.
         let p = good.needed s t (Needs-back s t needed) (StandsBefore-back order s t before) in
         (Path-mono {E = i.DependsShared items lists} {F = o.Depends g} (Depends-forth g items lists found) p.0, Path-mono {E = i.SharedStep items lists} {F = o.Step g} Step-forth p.1);
+    as_numbered = λ bound s t most settled a b before.
+        good.as_numbered bound s t (subst (λ count. bound ≤ count) (sym (sym (length-map items references_of) ∙ found.len)) most)
+        (λ x y c d path. settled x y c d (Path-mono {E = i.SharedStep items lists} {F = o.Step g} Step-forth path)) a b (StandsBefore-back order s t before);
   }

@@ -1,5 +1,5 @@
 -- How the sort begins, and what it has come to when nothing is left on the stack.
-use Rattle.std.proofs.Common.{◌≡◌, ◌≢◌, false, nat_eq, ℕ, ◌<◌, ◌≤◌, ◌⊎◌, List, [], length, get_or, map, Contains, Some, sym, ap, ◌∙◌, subst, inl, inr, arith}
+use Rattle.std.proofs.Common.{◌≡◌, ◌≢◌, false, nat_eq, ℕ, ◌<◌, ◌≤◌, ◌-◌, ◌⊎◌, List, [], length, get_or, map, Contains, Some, sym, ap, ◌∙◌, subst, inl, inr, arith}
 use Rattle.std.specs.List.{IsDistinct, slice_get}
 use Rattle.std.proofs.lemmas.Bool.{cases_lt, cases_Bool, false≢true, eq-eqb}
 use Rattle.std.proofs.lemmas.Option.{slice_get_within, get_or_from_slice_get}
@@ -7,7 +7,8 @@ use Rattle.std.proofs.lemmas.List.{get_or_past, length-map, get_or-map}
 use Rattle.std.proofs.lemmas.Map.Keys.{apart_from_distinct, IsDistinct-from_apart}
 use Rattle.bundle_order_sort.specs.declared.stack.Progress.{Progress}
 use Rattle.bundle_order_sort.specs.Numbers.{IsListedBefore, IsInOrder, unknown, fresh, progress_of, IsOut}
-use Rattle.bundle_order_sort.proofs.SortLemmas.{Promise, Sorting}
+use Rattle.bundle_order_sort.proofs.FirstLemmas.{Stands-starts}
+use Rattle.bundle_order_sort.proofs.SortLemmas.{Along, Promise, Sorting}
 
 nothing_in : (y : ℕ) → Contains [] y → ⊥
 nothing_in y c = omega (arith, c.1)
@@ -36,8 +37,8 @@ module _ (N : ℕ → ℕ → Type 0) (count : ℕ) (ranks firsts : List ℕ) wh
   next_first : (t : ℕ) → (progress_of (map fresh firsts) t).next ≤ get_or firsts t 0
   next_first t = elim (not_out t) [ inl e ↦ subst (λ q. q.next ≤ get_or firsts t 0) (sym e) (omega arith) | inr e ↦ subst (λ q. q.next ≤ get_or firsts t 0) (sym e) (omega arith) ]
 
-  pub Sorting-starts : length firsts ≡ count → (stack : List ℕ) → ((k : ℕ) → k < length stack → get_or stack k 0 < count) → ((t : ℕ) → t < count → Contains stack t) → Sorting N count ranks firsts stack (map fresh firsts) []
-  Sorting-starts len stack within all = record {
+  pub Sorting-starts : length firsts ≡ count → (stack : List ℕ) → length stack ≡ count → ((k : ℕ) → k < count → get_or stack k 0 ≡ count - 1 - k) → ((k : ℕ) → k < length stack → get_or stack k 0 < count) → ((t : ℕ) → t < count → Contains stack t) → Sorting N count ranks firsts stack (map fresh firsts) []
+  Sorting-starts len stack long each within all = record {
     len = length-map firsts fresh ∙ len;
     within = within;
     done = λ t. (λ o. absurd (false≢true (sym (out_never t) ∙ o)), λ c. absurd (nothing_in t c));
@@ -46,6 +47,7 @@ module _ (N : ℕ → ℕ → Type 0) (count : ℕ) (ranks firsts : List ℕ) wh
     from = λ s h. subst (λ q. get_or firsts s 0 ≤ q.next) (sym (fresh_at s (omega (arith, h, len)))) (omega arith);
     hangs = λ s t b n void. absurd (false≢true (sym (begun_never s) ∙ b));
     under = λ s t f h void. absurd (omega (arith, f, h, next_first s));
+    stands = λ bound settled. Stands-starts (Along N count ranks firsts) bound count (IsOut (map fresh firsts)) stack long each (λ t o. false≢true (sym (out_never t) ∙ o));
     good = λ i h t n. absurd (omega (arith, h));
   }
 
@@ -68,4 +70,5 @@ module _ (N : ℕ → ℕ → Type 0) (count : ℕ) (ranks firsts : List ℕ) wh
       once = w.once;
       own = λ s t e b. (promised s t b).own e;
       needed = λ s t n b. (promised s t b).needed n;
+      as_numbered = λ bound s t most settled a c b. (promised s t b).as_numbered bound most settled a c;
     }

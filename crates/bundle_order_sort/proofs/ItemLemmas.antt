@@ -155,6 +155,7 @@ module _ (items : List SharedItem) (lists : List (List ℕ)) (ranks : List ℕ) 
           let i = stands_in order g s t b in
           let two = g.needed s t (NeedsByRank-from_needs s t n) b in
           (back s t (n.is_weak, n.named) two.0, path s s i.0 two.1);
+      as_numbered = λ bound s t most settled a b before. g.as_numbered bound s t most (λ x y h l p. settled x y h l (path x y (omega (arith, h, most)) p)) a b before;
     }
 
 -- ---- the firsts, one more

@@ -1,7 +1,9 @@
 pub mod ChainLemmas
+pub mod EachLemmas
 pub mod ElementLemmas
 pub mod EndLemmas
 pub mod Examples
+pub mod FirstLemmas
 pub mod HubLemmas
 pub mod ItemLemmas
 pub mod KnownLemmas

@@ -6,11 +6,12 @@ use Rattle.std.proofs.lemmas.Cmp.{nat_eq_equiv}
 use Rattle.std.proofs.lemmas.List.{length-append, length_push, get_or_append_left, get_or_push, get_or_default, get_or-append-add, get_or-set_same, get_or-set_other, length-set}
 use Rattle.std.proofs.lemmas.List.Elements.{Contains-append_left, Contains-append_right, Contains-push, Contains-push_cases}
 use Rattle.std.proofs.lemmas.Map.Keys.{IsDistinct-push}
-use Rattle.bundle_order_graph.specs.Walks.{Path}
+use Rattle.bundle_order_graph.specs.Walks.{Path, IsSettled}
 use Rattle.bundle_order_sort.specs.Topmost.{IsTopmost}
 use Rattle.bundle_order_sort.proofs.TopmostLemmas.{Under-topmost, Hangs-topmost}
 use Rattle.bundle_order_sort.specs.declared.stack.Progress.{Progress}
 use Rattle.bundle_order_sort.specs.Numbers.{IsEarlierNumber, NumberStep, by_need, by_own_order, unknown, progress_of, IsOut, is_awaited}
+use Rattle.bundle_order_sort.proofs.FirstLemmas.{Stands, Stands-less, Stands-more, Stands-topmost}
 use Rattle.bundle_order_sort.proofs.StackLemmas.{Path-one, before_or_at, Under, Hangs, Under-pop, Hangs-pop, Under-top, Hangs-top, Under-push, Hangs-push, Hangs-begun, Under-new}
 
 abbrev pub IsBegun : List Progress → ℕ → Type 0
@@ -68,6 +69,7 @@ module _ (N : ℕ → ℕ → Type 0) (count : ℕ) (ranks firsts : List ℕ) wh
   pub record Promise (s t : ℕ) : Type 0 where
     pub own : IsEarlierNumber firsts s t → Path Along t s
     pub needed : N s t → (get_or ranks s 0 ≤ get_or ranks t 0) × Path Along s s
+    pub as_numbered : (bound : ℕ) → bound ≤ count → IsSettled Along bound → s < bound → t < bound → s < t
 
   or_itself : {A B C : Type 0} → (A → B) → A ⊎ C → B ⊎ C
   or_itself f (inl a) = inl (f a)
@@ -87,6 +89,7 @@ module _ (N : ℕ → ℕ → Type 0) (count : ℕ) (ranks firsts : List ℕ) wh
     pub hangs : (s t : ℕ) → IsBegun ps s → N s t → (IsOut ps t → ⊥) → Hangs Along stack s t ⊎ Path Along s s
     -- an earlier item that was put above an item once is out, or a path of steps leads from it to all above it
     pub under : (s t : ℕ) → get_or firsts s 0 ≤ t → t < (progress_of ps s).next → (IsOut ps t → ⊥) → Under Along stack t
+    pub stands : (bound : ℕ) → IsSettled Along bound → Stands Along bound (IsOut ps) stack
     pub good : (i : ℕ) → i < length order → (t : ℕ) → ((k : ℕ) → k ≤ i → get_or order k 0 ≢ t) → Promise (get_or order i 0) t
 
   module _ (inside : (s t : ℕ) → N s t → t < count) (rest : List ℕ) (s : ℕ) (ps : List Progress) (order : List ℕ) (w : Sorting (rest ++ s ∷ []) ps order) where
@@ -113,6 +116,7 @@ module _ (N : ℕ → ℕ → Type 0) (count : ℕ) (ranks firsts : List ℕ) wh
       from = w.from;
       hangs = λ u t b n void. or_itself (λ h. Hangs-pop Along rest s u t h (other t void)) (w.hangs u t b n void);
       under = λ u t f h void. Under-pop Along rest s t (w.under u t f h void) (other t void);
+      stands = λ bound settled. Stands-less Along bound (IsOut ps) (IsOut ps) (rest ++ s ∷ []) rest (w.stands bound settled) (omega (arith, length_push rest s)) (λ k h. sym (get_or_append_left rest (s ∷ []) 0 k h)) (λ k h l o. o);
       good = w.good;
     }
       where
@@ -130,8 +134,31 @@ module _ (N : ℕ → ℕ → Type 0) (count : ℕ) (ranks firsts : List ℕ) wh
           by (inl l) = subst (λ x. x < count) (sym (get_or_append_left (rest ++ s ∷ []) ys 0 k l)) (w.within k l)
           by (inr g) = at (k - length (rest ++ s ∷ [])) (omega (arith, g))
 
+    -- what is put above it is not out; so it is none of the first so many
+    module _ (ys : List ℕ) (steps : (k : ℕ) → k < length ys → Path Along s (get_or ys k 0)) (into : (k : ℕ) → k < length ys → get_or ys k 0 < count) (not_out : (k : ℕ) → k < length ys → IsOut ps (get_or ys k 0) → ⊥) (ps' : List Progress) (outs : (t : ℕ) → IsOut ps' t → IsOut ps t) where
+      stack_length : length (rest ++ s ∷ []) ≡ length rest + 1
+      stack_length = length_push rest s
+
+      top_is : get_or (rest ++ s ∷ []) (length (rest ++ s ∷ []) - 1) 0 ≡ s
+      top_is = get_or_push rest s 0 (length (rest ++ s ∷ []) - 1) (omega (arith, stack_length))
+
+      new_at : (k : ℕ) → length (rest ++ s ∷ []) ≤ k → k < length ((rest ++ s ∷ []) ++ ys) → (n : ℕ) × (n < length ys) × (get_or ((rest ++ s ∷ []) ++ ys) k 0 ≡ get_or ys n 0)
+      new_at k h l = at (k - length (rest ++ s ∷ [])) (omega (arith, h))
+        where
+          at : (n : ℕ) → k ≡ length (rest ++ s ∷ []) + n → (n : ℕ) × (n < length ys) × (get_or ((rest ++ s ∷ []) ++ ys) k 0 ≡ get_or ys n 0)
+          at n e = (n, omega (arith, e, l, length-append (rest ++ s ∷ []) ys), ap (λ m. get_or ((rest ++ s ∷ []) ++ ys) m 0) e ∙ get_or-append-add (rest ++ s ∷ []) ys n 0)
+
+      new_there : (k : ℕ) → length (rest ++ s ∷ []) ≤ k → k < length ((rest ++ s ∷ []) ++ ys) → (i : ℕ) × (i < length (rest ++ s ∷ [])) × (get_or (rest ++ s ∷ []) i 0 ≡ get_or ((rest ++ s ∷ []) ++ ys) k 0)
+      new_there k h l =
+          let n = new_at k h l in
+          let c = w.left (get_or ys n.0 0) (into n.0 n.1) (not_out n.0 n.1) in
+          (c.0, c.1, get_or_default (rest ++ s ∷ []) c.0 0 (get_or ys n.0 0) c.1 ∙ (c.2 ∙ sym n.2))
+
+      pushed_stands : (bound : ℕ) → IsSettled Along bound → Stands Along bound (IsOut ps') ((rest ++ s ∷ []) ++ ys)
+      pushed_stands bound settled = Stands-more Along bound (IsOut ps) (rest ++ s ∷ []) (w.stands bound settled) settled (omega (arith, stack_length)) ((rest ++ s ∷ []) ++ ys) (omega (arith, length-append (rest ++ s ∷ []) ys)) (λ k h. get_or_append_left (rest ++ s ∷ []) ys 0 k h) (λ k h l. let n = new_at k h l in subst (λ x. Path Along x (get_or ((rest ++ s ∷ []) ++ ys) k 0)) (sym top_is) (subst (λ x. Path Along s x) (sym n.2) (steps n.0 n.1))) new_there (IsOut ps') outs
+
     -- what the item waits for is put above it
-    module _ (ys : List ℕ) (sound : (k : ℕ) → k < length ys → N s (get_or ys k 0)) (complete : (t : ℕ) → N s t → is_awaited ranks ps s t ≡ true → Contains ys t) (p : Progress) (same_out : p.out ≡ (progress_of ps s).out) (begun : p.begun ≡ true) (same_next : p.next ≡ (progress_of ps s).next) where
+    module _ (ys : List ℕ) (sound : (k : ℕ) → k < length ys → N s (get_or ys k 0)) (not_out : (k : ℕ) → k < length ys → IsOut ps (get_or ys k 0) → ⊥) (complete : (t : ℕ) → N s t → is_awaited ranks ps s t ≡ true → Contains ys t) (p : Progress) (same_out : p.out ≡ (progress_of ps s).out) (begun : p.begun ≡ true) (same_next : p.next ≡ (progress_of ps s).next) where
       steps : (k : ℕ) → k < length ys → Path Along s (get_or ys k 0)
       steps k h = Path-one Along s (get_or ys k 0) (by_need (sound k h))
 
@@ -154,6 +181,7 @@ module _ (N : ℕ → ℕ → Type 0) (count : ℕ) (ranks firsts : List ℕ) wh
         from = λ u h. subst (λ n. get_or firsts u 0 ≤ n) (sym (nexts u)) (w.from u h);
         hangs = λ u t b n void. hang u t b n (λ o. void (is_out t o)) (cases_eq u s) (cases_Bool (progress_of ps u).begun);
         under = λ u t f h void. Under-push Along rest s ys steps t (w.under u t f (subst (λ n. t < n) (nexts u) h) (λ o. void (is_out t o)));
+        stands = pushed_stands ys steps (λ k h. inside s (get_or ys k 0) (sound k h)) not_out (set ps s p) was_out;
         good = w.good;
       }
         where
@@ -166,8 +194,8 @@ module _ (N : ℕ → ℕ → Type 0) (count : ℕ) (ranks firsts : List ℕ) wh
           hang u t b n void (inr ne) (inr new) = absurd (false≢true (sym new ∙ (sym (ap (λ q. q.begun) (kept ps s p top_known u ne)) ∙ b)))
 
     -- a chain of what the item waits for is put above it: no item's progress changes
-    pub Sorting-chains : (ys : List ℕ) (steps : (k : ℕ) → k < length ys → Path Along s (get_or ys k 0)) → ((k : ℕ) → k < length ys → get_or ys k 0 < count) → Sorting ((rest ++ s ∷ []) ++ ys) ps order
-    Sorting-chains ys steps into = record {
+    pub Sorting-chains : (ys : List ℕ) (steps : (k : ℕ) → k < length ys → Path Along s (get_or ys k 0)) → ((k : ℕ) → k < length ys → get_or ys k 0 < count) → ((k : ℕ) → k < length ys → IsOut ps (get_or ys k 0) → ⊥) → Sorting ((rest ++ s ∷ []) ++ ys) ps order
+    Sorting-chains ys steps into not_out = record {
       len = w.len;
       within = pushed_within ys steps into;
       done = w.done;
@@ -176,11 +204,12 @@ module _ (N : ℕ → ℕ → Type 0) (count : ℕ) (ranks firsts : List ℕ) wh
       from = w.from;
       hangs = λ u t b n void. or_itself (Hangs-push Along rest s ys steps u t) (w.hangs u t b n void);
       under = λ u t f h void. Under-push Along rest s ys steps t (w.under u t f h void);
+      stands = pushed_stands ys steps into not_out ps (λ t o. o);
       good = w.good;
     }
 
     -- an earlier item of its module is put above it
-    module _ (e : ℕ) (high : (progress_of ps s).next ≤ e) (low : e < s) (skipped : (u : ℕ) → (progress_of ps s).next ≤ u → u < e → IsOut ps u) (p : Progress) (same_out : p.out ≡ (progress_of ps s).out) (same_begun : p.begun ≡ (progress_of ps s).begun) (next : p.next ≡ e + 1) where
+    module _ (e : ℕ) (high : (progress_of ps s).next ≤ e) (low : e < s) (not_out : IsOut ps e → ⊥) (skipped : (u : ℕ) → (progress_of ps s).next ≤ u → u < e → IsOut ps u) (p : Progress) (same_out : p.out ≡ (progress_of ps s).out) (same_begun : p.begun ≡ (progress_of ps s).begun) (next : p.next ≡ e + 1) where
       one : List ℕ
       one = e ∷ []
 
@@ -213,6 +242,7 @@ module _ (N : ℕ → ℕ → Type 0) (count : ℕ) (ranks firsts : List ℕ) wh
         from = λ u h. starts u h (cases_eq u s);
         hangs = λ u t b n void. or_itself (Hangs-push Along rest s (e ∷ []) own_steps u t) (w.hangs u t (sym (begins u) ∙ b) n (λ o. void (is_out' t o)));
         under = λ u t f h void. lies u t f h (λ o. void (is_out' t o)) (cases_eq u s);
+        stands = pushed_stands (e ∷ []) own_steps (λ k h. subst (λ x. x < count) (sym (only k h)) (omega (arith, low, top_in))) (λ k h o. not_out (subst (λ x. IsOut ps x) (only k h) o)) (set ps s p) was_out';
         good = w.good;
       }
         where
@@ -266,8 +296,15 @@ module _ (N : ℕ → ℕ → Type 0) (count : ℕ) (ranks firsts : List ℕ) wh
         needed = λ d.
             let no = is_awaited-no (progress_of ps t).out (nat_lt (get_or ranks t 0) (get_or ranks s 0)) (progress_of ps s).begun (none t d) n in
             (le-nat_lt (get_or ranks t 0) (get_or ranks s 0) no.0, elim (w.hangs s t no.1 d n) [ inl h ↦ Hangs-top Along rest s s t h | inr p ↦ p ]);
+        as_numbered = λ bound most settled a b. rises bound settled a b (below t ne (w.left t (omega (arith, b, most)) n));
       }
         where
+          rises : (bound : ℕ) → IsSettled Along bound → s < bound → t < bound → Contains rest t → s < t
+          rises bound settled a b c =
+              let top : get_or (rest ++ s ∷ []) (length rest) 0 ≡ s = get_or_push rest s 0 (length rest) refl in
+              let its : get_or (rest ++ s ∷ []) c.0 0 ≡ t = get_or_append_left rest (s ∷ []) 0 c.0 c.1 ∙ (get_or_default rest c.0 0 t c.1 ∙ c.2) in
+              omega (arith, (w.stands bound settled).falls c.0 (length rest) c.1 (omega (arith, length_push rest s)) (omega (arith, its, b)) (omega (arith, top, a)), top, its)
+
           lower : t < s → (t < (progress_of ps s).next) ⊎ ((progress_of ps s).next ≤ t) → t < (progress_of ps s).next
           lower l (inl h) = h
           lower l (inr g) = absurd (n (past t g l))
@@ -285,9 +322,19 @@ module _ (N : ℕ → ℕ → Type 0) (count : ℕ) (ranks firsts : List ℕ) wh
         from = λ u h. subst (λ x. get_or firsts u 0 ≤ x) (sym (nexts' u)) (w.from u h);
         hangs = λ u t b d n. or_itself (λ h. Hangs-pop Along rest s u t h (others t n)) (w.hangs u t (sym (begins' u) ∙ b) d (λ o. n (stays_out t o)));
         under = λ u t f h n. Under-pop Along rest s t (w.under u t f (subst (λ x. t < x) (nexts' u) h) (λ o. n (stays_out t o))) (others t n);
+        stands = λ bound settled. Stands-less Along bound (IsOut ps) (IsOut (set ps s p)) (rest ++ s ∷ []) rest (w.stands bound settled) (omega (arith, length_push rest s)) (λ k h. sym (get_or_append_left rest (s ∷ []) 0 k h)) (out_before bound settled);
         good = λ i h t n. keeps i h t n (before_or_at i (length order) (omega (arith, h, length_push order s)));
       }
         where
+          -- the item is the lowest of the first so many on the stack, if it is one of them
+          out_before : (bound : ℕ) → IsSettled Along bound → (k : ℕ) → k < length rest → get_or (rest ++ s ∷ []) k 0 < bound → IsOut (set ps s p) (get_or (rest ++ s ∷ []) k 0) → IsOut ps (get_or (rest ++ s ∷ []) k 0)
+          out_before bound settled k h l o = elim (out_now (get_or (rest ++ s ∷ []) k 0) o) [
+            | inl was ↦ was
+            | inr e ↦
+                let top : get_or (rest ++ s ∷ []) (length rest) 0 ≡ s = get_or_push rest s 0 (length rest) refl in
+                absurd (omega (arith, (w.stands bound settled).falls k (length rest) h (omega (arith, length_push rest s)) l (omega (arith, top, e, l)), top, e))
+          ]
+
           keeps : (i : ℕ) → i < length (order ++ s ∷ []) → (t : ℕ) → ((k : ℕ) → k ≤ i → get_or (order ++ s ∷ []) k 0 ≢ t) → (i < length order) ⊎ (i ≡ length order) → Promise (get_or (order ++ s ∷ []) i 0) t
           keeps i h t n (inl l) = subst (λ x. Promise x t) (sym (get_or_append_left order (s ∷ []) 0 i l)) (w.good i l t (λ k g e. n k g (get_or_append_left order (s ∷ []) 0 k (omega (arith, g, l)) ∙ e)))
           keeps i h t n (inr e) =
@@ -309,6 +356,7 @@ module _ (N : ℕ → ℕ → Type 0) (count : ℕ) (ranks firsts : List ℕ) wh
       from = w.from;
       hangs = λ s t b n void. hang s t b n void (cases_Bool (progress_of ps s).out);
       under = λ s t f h void. Under-topmost Along (λ x. IsOut ps x → ⊥) stack kept top t void (w.under s t f h void);
+      stands = λ bound settled. Stands-topmost Along bound (IsOut ps) stack (w.stands bound settled) kept top;
       good = w.good;
     }
       where

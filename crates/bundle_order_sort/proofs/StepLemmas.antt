@@ -112,6 +112,9 @@ module _ (N : ℕ → ℕ → Type 0) (count : ℕ) (ranks firsts : List ℕ) (i
         sound : (k : ℕ) → k < length (reverse needed) → N s (get_or (reverse needed) k 0)
         sound k h = ((each (get_or (reverse needed) k 0)).0 (All-reverse needed k 0 h)).1
 
+        not_out : (k : ℕ) → k < length (reverse needed) → IsOut ps (get_or (reverse needed) k 0) → ⊥
+        not_out k h = ((each (get_or (reverse needed) k 0)).0 (All-reverse needed k 0 h)).0
+
         complete : (t : ℕ) → N s t → is_awaited ranks ps s t ≡ true → Contains (reverse needed) t
         complete t n a = Contains-reverse needed t ((each t).1 (awaited-left (progress_of ps t).out (nat_lt (get_or ranks t 0) (get_or ranks s 0) || not (progress_of ps s).begun) a, n))
 
@@ -122,7 +125,7 @@ module _ (N : ℕ → ℕ → Type 0) (count : ℕ) (ranks firsts : List ℕ) (i
         pushed-split = pushed ∙ ap (λ (l : List ℕ). l ++ reverse needed) split
 
         pub begins : Sorting N count ranks firsts stack' (set ps s p) order
-        begins = subst (λ (l : List ℕ). Sorting N count ranks firsts l (set ps s p) order) (sym pushed-split) (Sorting-awaits N count ranks firsts inside (without_top stack) s ps order sorting (reverse needed) sound complete p (ap (λ q. q.out) e ∙ sym (ap (λ q. q.out) is)) (ap (λ q. q.begun) e) (ap (λ q. q.next) e ∙ sym (ap (λ q. q.next) is)))
+        begins = subst (λ (l : List ℕ). Sorting N count ranks firsts l (set ps s p) order) (sym pushed-split) (Sorting-awaits N count ranks firsts inside (without_top stack) s ps order sorting (reverse needed) sound not_out complete p (ap (λ q. q.out) e ∙ sym (ap (λ q. q.out) is)) (ap (λ q. q.begun) e) (ap (λ q. q.next) e ∙ sym (ap (λ q. q.next) is)))
 
         pub begins-work : work count ranks (set ps s p) stack' < work count ranks ps stack
         begins-work =
@@ -142,7 +145,7 @@ module _ (N : ℕ → ℕ → Type 0) (count : ℕ) (ranks firsts : List ℕ) (i
         grown-split = adds.grown ∙ ap (λ (l : List ℕ). l ++ adds.chain) split
 
         pub chains : Sorting N count ranks firsts stack' ps order
-        chains = subst (λ (l : List ℕ). Sorting N count ranks firsts l ps order) (sym grown-split) (Sorting-chains N count ranks firsts inside (without_top stack) s ps order sorting adds.chain steps (λ k h. chain-in k h))
+        chains = subst (λ (l : List ℕ). Sorting N count ranks firsts l ps order) (sym grown-split) (Sorting-chains N count ranks firsts inside (without_top stack) s ps order sorting adds.chain steps (λ k h. chain-in k h) adds.left)
 
         pub chains-work : length stack < length stack' → work count ranks ps stack' < work count ranks ps stack
         chains-work h =
@@ -179,10 +182,10 @@ module _ (N : ℕ → ℕ → Type 0) (count : ℕ) (ranks firsts : List ℕ) (i
           high' : (progress_of ps s).next ≤ e
           high' = subst (λ q. q.next ≤ e) (sym is) high
 
-          pub pulls : e < s → (p : Progress) → p ≡ record { out = known.out; begun = known.begun; next = e + 1 } → (now : List ℕ) → now ≡ stack' ++ e ∷ [] → Sorting N count ranks firsts now (set ps s p) order
-          pulls low p f now g =
+          pub pulls : e < s → (IsOut ps e → ⊥) → (p : Progress) → p ≡ record { out = known.out; begun = known.begun; next = e + 1 } → (now : List ℕ) → now ≡ stack' ++ e ∷ [] → Sorting N count ranks firsts now (set ps s p) order
+          pulls low not_out p f now g =
               subst (λ (l : List ℕ). Sorting N count ranks firsts l (set ps s p) order) (sym (g ∙ ap (λ (l : List ℕ). l ++ e ∷ []) (same ∙ split)))
-              (Sorting-pulls N count ranks firsts inside (without_top stack) s ps order sorting e high' low skipped' p (ap (λ q. q.out) f ∙ sym (ap (λ q. q.out) is)) (ap (λ q. q.begun) f ∙ sym (ap (λ q. q.begun) is)) (ap (λ q. q.next) f))
+              (Sorting-pulls N count ranks firsts inside (without_top stack) s ps order sorting e high' low not_out skipped' p (ap (λ q. q.out) f ∙ sym (ap (λ q. q.out) is)) (ap (λ q. q.begun) f ∙ sym (ap (λ q. q.begun) is)) (ap (λ q. q.next) f))
 
           pub pulls-work : e < s → (p : Progress) → p ≡ record { out = known.out; begun = known.begun; next = e + 1 } → (now : List ℕ) → now ≡ stack' ++ e ∷ [] → work count ranks (set ps s p) now < work count ranks ps stack
           pulls-work low p f now g =

@@ -1,7 +1,7 @@
 -- In which order items may stand that need each other, of modules that have an order of their own.
 use Rattle.std.specs.Prelude.{◌≡◌, ◌≢◌, ℕ, ◌+◌, ◌<◌, ◌≤◌, ◌⊎◌, ◌↔◌, nat_eq, nat_lt, Bool, true, false, Option, None, List, length, slice_get, slice_index, slice_index_or, Some, Contains}
 use Rattle.std.specs.List.{IsDistinct}
-use Rattle.bundle_order_graph.specs.Walks.{Path}
+use Rattle.bundle_order_graph.specs.Walks.{Path, IsSettled}
 use Rattle.bundle_order_sort.specs.declared.Reference.{Reference}
 use Rattle.bundle_order_sort.specs.declared.SharedItem.{SharedItem}
 use Rattle.bundle_order_graph.specs.Classes.{Leads}
@@ -56,7 +56,9 @@ pub data SharedStep (items : List SharedItem) (lists : List (List ℕ)) (s t : �
   to_need : NeedsShared items lists s t → SharedStep items lists s t
   to_earlier : IsEarlierItem items s t → SharedStep items lists s t
 
--- the order that is promised: each item once. An item stands before an earlier one of its module only where a path of steps leads from that one back to it. It stands before one that it needs only where a path of dependencies leads from that one back to it, and a path of steps from it to itself
+-- the order that is promised: each item once. An item stands before an earlier one of its module only where a path of steps leads from that one back to it. It stands before one that it needs only where a path of dependencies leads from that one back to it, and a path of steps from it to itself.
+-- The items below a bound stand as they are numbered, where from none of them a path of steps leads
+-- to itself or to a later one of them
 pub record IsGoodItemOrder (items : List SharedItem) (lists : List (List ℕ)) (order : List ℕ) : Type 0 where
   pub all : (s : ℕ) → (s < length items) ↔ Contains order s
   pub once : IsDistinct nat_eq order
@@ -66,6 +68,13 @@ pub record IsGoodItemOrder (items : List SharedItem) (lists : List (List ℕ)) (
       NeedsShared items lists s t →
       IsListedBefore order s t →
       Path (DependsShared items lists) t s × Path (SharedStep items lists) s s
+  pub as_numbered : (bound s t : ℕ) →
+      bound ≤ length items →
+      IsSettled (SharedStep items lists) bound →
+      s < bound →
+      t < bound →
+      IsListedBefore order s t →
+      s < t
 
 -- the items of each module stand together
 abbrev pub AreGrouped : List SharedItem → Type 0

@@ -1,7 +1,7 @@
 -- The promise over numbers alone: which item needs which, a rank for each item, and the first item of each item's module.
 use Rattle.std.specs.Prelude.{◌≡◌, ℕ, ◌<◌, ◌≤◌, ◌&&◌, ◌||◌, ◌↔◌, Bool, true, false, not, nat_eq, nat_lt, List, [], slice_get, slice_index, slice_index_or, Some, Contains}
 use Rattle.std.specs.List.{IsDistinct}
-use Rattle.bundle_order_graph.specs.Walks.{Path}
+use Rattle.bundle_order_graph.specs.Walks.{Path, IsSettled}
 use Rattle.bundle_order_sort.specs.declared.stack.Progress.{Progress}
 
 -- the list of item s has item t
@@ -25,7 +25,8 @@ pub record IsListedBefore (order : List ℕ) (a b : ℕ) : Type 0 where
   pub first : slice_get order i ≡ Some a
   pub second : slice_get order j ≡ Some b
 
--- the order of so many items that is promised, where N tells what an item needs. Own order: an item stands before an earlier one of its module only where a path of steps leads from that one back to it. Needs: an item stands before one that it needs only where that one does not rank below it, and a path of steps leads from it to itself
+-- the order of so many items that is promised, where N tells what an item needs. Own order: an item stands before an earlier one of its module only where a path of steps leads from that one back to it. Needs: an item stands before one that it needs only where that one does not rank below it, and a path of steps leads from it to itself.
+-- Numbers: the items below a bound stand as they are numbered, where they are settled
 pub record IsInOrder (N : ℕ → ℕ → Type 0) (count : ℕ) (ranks firsts order : List ℕ) : Type 0 where
   pub all : (s : ℕ) → (s < count) ↔ Contains order s
   pub once : IsDistinct nat_eq order
@@ -35,6 +36,13 @@ pub record IsInOrder (N : ℕ → ℕ → Type 0) (count : ℕ) (ranks firsts or
       N s t →
       IsListedBefore order s t →
       (slice_index ranks s ≤ slice_index ranks t) × Path (NumberStep N firsts) s s
+  pub as_numbered : (bound s t : ℕ) →
+      bound ≤ count →
+      IsSettled (NumberStep N firsts) bound →
+      s < bound →
+      t < bound →
+      IsListedBefore order s t →
+      s < t
 
 -- How far the sort has come.
 

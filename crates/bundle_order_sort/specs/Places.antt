@@ -1,5 +1,5 @@
 -- Where the items of modules stand among all items, and which modules reach each other.
-use Rattle.std.specs.Prelude.{ℕ, ◌+◌, ◌-◌, nat_eq, not, Bool, false, List, [], ◌∷◌, ◌++◌, Option, Some, None, length, map, slice_get, if◌then◌else◌}
+use Rattle.std.specs.Prelude.{ℕ, zero, suc, ◌+◌, ◌-◌, nat_eq, not, Bool, false, List, [], ◌∷◌, ◌++◌, Option, Some, None, length, map, slice_get, if◌then◌else◌}
 use Rattle.std.specs.List.{list_any}
 use Rattle.bundle_order_graph.specs.Modules.{Modules, Requests}
 use Rattle.bundle_order_graph.specs.Walks.{Reaches}
@@ -16,6 +16,11 @@ places_of owners m = places_where 0 (λ owner. nat_eq owner m) owners
 -- the places of the items of modules that are not in a list
 abbrev pub left_of : List ℕ → List ℕ → List ℕ
 left_of owners list = places_where 0 (λ owner. not (list_any (nat_eq owner) list)) owners
+
+-- the numbers from n on, so many
+abbrev pub numbers_from : ℕ → ℕ → List ℕ
+numbers_from n zero = []
+numbers_from n (suc count) = n ∷ numbers_from (suc n) count
 
 -- for each item of several modules the number of its module, counted from k on
 abbrev pub module_numbers_from : {X : Type 0} → ℕ → List (List X) → List ℕ

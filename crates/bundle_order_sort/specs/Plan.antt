@@ -1,5 +1,5 @@
 -- The blocks in which items of modules are put in order.
-use Rattle.std.specs.Prelude.{◌≡◌, ℕ, true, false, List, [], ◌∷◌, map}
+use Rattle.std.specs.Prelude.{◌≡◌, ℕ, Bool, true, false, List, [], ◌∷◌, length, map}
 use Rattle.std.specs.List.{AllZip, flat_map}
 use Rattle.bundle_order_graph.specs.Modules.{Modules, Requests}
 use Rattle.bundle_order_graph.specs.Blocks.{BlocksOf}
@@ -7,7 +7,7 @@ use Rattle.bundle_order_graph.specs.Order.{IsOrder}
 use Rattle.bundle_order_sort.specs.declared.plan.Block.{Block}
 use Rattle.bundle_order_sort.specs.declared.plan.Plan.{Plan}
 use Rattle.bundle_order_sort.specs.Merged.{MergedMembers}
-use Rattle.bundle_order_sort.specs.Places.{ReachEachOther, left_of, module_numbers_from, places_of}
+use Rattle.bundle_order_sort.specs.Places.{ReachEachOther, left_of, module_numbers_from, numbers_from, places_of}
 
 -- the block of these modules, where these are the modules of all items
 pub record IsBlock (owners : List ℕ) (members : MergedMembers) (block : Block) : Type 0 where
@@ -30,3 +30,21 @@ pub record IsPlanOf (g : Modules) (entry : ℕ) (owners : List ℕ) (plan : Plan
   pub are_blocks : BlocksOf (ReachEachOther g) list list blocks
   pub planned : AllZip (IsPlanned g owners) blocks plan.blocks.items
   pub left : plan.left.items ≡ left_of owners list
+
+-- the block of the item at a place alone, which is not sorted
+pub record IsOwnBlock (place : ℕ) (block : Block) : Type 0 where
+  pub places : block.places.items ≡ place ∷ []
+  pub numbers : block.numbers.items ≡ 0 ∷ []
+  pub unsorted : block.is_cycle ≡ false
+
+-- so many items, each in a block of its own, in their order; none is left
+pub record IsPlanOfEach (count : ℕ) (plan : Plan) : Type 0 where
+  pub blocks : AllZip IsOwnBlock (numbers_from 0 count) plan.blocks.items
+  pub left : plan.left.items ≡ []
+
+-- the plan of the modules of a list that is asked for: each is in a block of its own where modules
+-- stand in the standard's order, and else the blocks are those of modules that reach each other
+pub record IsPlanAsked (in_standard_order : Bool) (g : Modules) (entry : ℕ) (list : List ℕ)
+    (plan : Plan) : Type 0 where
+  pub by_requests : in_standard_order ≡ false → IsPlanOf g entry list plan
+  pub of_each : in_standard_order ≡ true → IsPlanOfEach (length list) plan

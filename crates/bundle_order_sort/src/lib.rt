@@ -68,8 +68,10 @@ pub struct SharedItem {
 /// Else, if it has needs that are not out, it is put back and those needs above it, the lowest on
 /// top; a need from which a path of dependencies leads back counts only once for each pair. Else,
 /// if it is not free, an earlier item of its module is not out and this pair was not used, it is
-/// put back and the first such item above it. Else it is out next. Which of the orders that keep
-/// the promise comes out is tested, not proved.
+/// put back and the first such item above it. Else it is out next.
+///
+/// So of the items below a bound none is moved without need: where from none of them a path of needs
+/// and own order leads to itself or to a later one of them, they are put out as they are numbered.
 ///
 /// Where the items of a module do not stand together, an earlier one of the module counts only if
 /// all between are of it too.
@@ -91,4 +93,4 @@ pub fn sort_shared(
 }
 
 pub use arranging::{Shuffle, arrange};
-pub use plan::{Block, Plan, plan_of};
+pub use plan::{Block, Plan, plan_asked, plan_of};

@@ -4,7 +4,7 @@ ghost use Rattle.std.specs.Prelude.{◌≡◌, ℕ, ◌++◌, ◌<◌, IfOk, IsT
 ghost use Rattle.std.specs.List.{AllZip};
 ghost use Rattle.bundle_order_sort.specs.Places.{is_list_end, is_in_some, left_of};
 ghost use Rattle.bundle_order_sort.specs.Merged.{ends_list_at, merged};
-ghost use Rattle.bundle_order_sort.specs.Plan.{IsBlock, IsPlanOf};
+ghost use Rattle.bundle_order_sort.specs.Plan.{IsBlock, IsOwnBlock, IsPlanAsked, IsPlanOf, IsPlanOfEach};
 ghost use Rattle.bundle_order_sort.specs.Rows.{AreRows};
 
 use crate::table::{Table, add_all, all_of, table_of};
@@ -46,6 +46,52 @@ pub fn plan_of(
     let blocks = blocks_of(alloc, &list, &cycles, &table)?;
     let left = left_places(alloc, &list, owners)?;
     Ok(Plan { blocks, left })
+}
+
+/// The blocks of the modules of a list that the entry reaches: those of `plan_of`, or where modules stand in the
+/// standard's order (ECMA-262, 16.2.1.5.2), each module in a block of its own. Refused only where memory runs out.
+pub fn plan_asked(
+    alloc: Global,
+    graph: &ModuleGraph,
+    entry: ModuleId,
+    list: &[ModuleId],
+    in_standard_order: bool,
+) -> Result<Plan, AllocError>
+    ensures { IfOk result (IsPlanAsked in_standard_order graph.now entry list.now) }
+{
+    if in_standard_order {
+        plan_of_each(alloc, list.len())
+    } else {
+        plan_of(alloc, graph, entry, list)
+    }
+}
+
+// So many items, each in a block of its own, in their order; none is left.
+#[tactic(auto, using(crate::proofs::EachLemmas::each_more))]
+fn plan_of_each(alloc: Global, count: usize) -> Result<Plan, AllocError>
+    ensures { IfOk result (λ plan. IsPlanOfEach count plan) }
+{
+    let mut blocks = Vec::new(alloc);
+    for place in 0..count {
+        blocks.push(own_block(alloc, place)?)?;
+    }
+    let left = Vec::new(alloc);
+    Ok(Plan { blocks, left })
+}
+
+// The block of the item at a place alone.
+fn own_block(alloc: Global, place: usize) -> Result<Block, AllocError>
+    ensures { IfOk result (λ block. IsOwnBlock place block) }
+{
+    let mut places = Vec::new(alloc);
+    places.push(place)?;
+    let mut numbers = Vec::new(alloc);
+    numbers.push(0)?;
+    Ok(Block {
+        places,
+        numbers,
+        is_cycle: false,
+    })
 }
 
 // The blocks of a list of modules, of which these are the cycles: each cycle where its last member stands, and each

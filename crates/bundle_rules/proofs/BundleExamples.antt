@@ -48,7 +48,7 @@ with_contexts = record { is_call = false; is_renamed = false }
 
 -- the settings
 abbrev pub settings : Setup → Settings
-settings how = record { require = false; external = codes "ext" ∷ []; iife = how.is_call; renames = how.is_renamed; most_modules = 9 }
+settings how = record { require = false; external = codes "ext" ∷ []; iife = how.is_call; renames = how.is_renamed; most_modules = 9; in_standard_order = false }
 
 abbrev pub p : Setup → Program
 p how = program_of kept (settings how) 0
@@ -261,7 +261,7 @@ pub its_list : (how : Setup) → IsList (p how) (0 ∷ [])
 its_list how = listed {before = []} (λ there. no_element 0 there) no_more no_more
 
 pub its_blocks : (how : Setup) → AreBlocks (p how) (0 ∷ []) ((0 ∷ []) ∷ [])
-its_blocks how = ends (itself, itself) (λ y there. absurd (no_element y there)) (member (itself, itself) no_members) over
+its_blocks how = ends (itself, itself, λ e. refl) (λ y there. absurd (no_element y there)) (member (itself, itself, λ e. refl) no_members) over
 
 pub follows : (how : Setup) → bundle.FollowsRequests (p how) ((0 ∷ []) ∷ [])
 follows how zero zero m n block other a b in_block in_other asks = inr refl
@@ -275,7 +275,7 @@ in_front how = left (λ its. differ (only_due how Helps its)) nothing
     differ e = cc
 
 its_block : (how : Setup) (reading : Reading) (ctxt : ℕ) → bundle.IsBlockLaidOut (p how) AsModule (tree_with ctxt) reading (pairing ctxt) (0 ∷ []) (Own 0 0 ∷ [])
-its_block how reading ctxt = lone (no_request how 0) (left (λ its. no_function (only_due how _ its)) (left (λ its. no_object (only_due how _ its)) (chosen (one_due how (Own 0 0) (0, lit< tt, refl)) (left (λ its. no_namespace (only_due how _ its)) nothing))))
+its_block how reading ctxt = lone (λ e. no_request how 0) (left (λ its. no_function (only_due how _ its)) (left (λ its. no_object (only_due how _ its)) (chosen (one_due how (Own 0 0) (0, lit< tt, refl)) (left (λ its. no_namespace (only_due how _ its)) nothing))))
   where
     no_function : Own 0 0 ≡ bundle.Defines 0 → ⊥
     no_function e = cc
@@ -298,7 +298,7 @@ laid_out how reading ctxt = record {
   is_list = its_list how;
   blocks = (0 ∷ []) ∷ [];
   are_blocks = its_blocks how;
-  follows = follows how;
+  follows = λ e. follows how;
   front = [];
   middle = Own 0 0 ∷ [];
   back = [];

@@ -111,7 +111,7 @@ in_front = left (not_due Helps no_own no_exports) nothing
     no_exports e = cc
 
 its_block : IsBlockLaidOut (p as_call) AsCall (wrapped tree) BySymbol pairing (0 ∷ []) (Own 0 0 ∷ [])
-its_block = lone (no_request as_call 0) (left (not_due _ a b) (left (not_due _ c d) (chosen (two_due (Own 0 0) (0, lit< tt, refl)) (left (not_due _ e f) nothing))))
+its_block = lone (λ e. no_request as_call 0) (left (not_due _ a b) (left (not_due _ c d) (chosen (two_due (Own 0 0) (0, lit< tt, refl)) (left (not_due _ e f) nothing))))
   where
     a : Own 0 0 ≡ Defines 0 → ⊥
     a same = cc
@@ -137,7 +137,7 @@ laid_out = record {
   is_list = its_list as_call;
   blocks = (0 ∷ []) ∷ [];
   are_blocks = its_blocks as_call;
-  follows = follows as_call;
+  follows = λ e. follows as_call;
   front = [];
   middle = Own 0 0 ∷ [];
   back = Exports ∷ [];

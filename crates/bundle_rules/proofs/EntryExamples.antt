@@ -6,7 +6,7 @@ use Rattle.bundle_rules.proofs.Trees.{node, module_of, number, exports_const, im
 
 -- `require` is linked, and `ext` is external
 abbrev linked : Settings
-linked = record { require = true; external = codes "ext" ∷ []; iife = false; renames = true; most_modules = 9 }
+linked = record { require = true; external = codes "ext" ∷ []; iife = false; renames = true; most_modules = 9; in_standard_order = false }
 
 -- nothing is bound
 abbrev all_free : ℕ → Bool

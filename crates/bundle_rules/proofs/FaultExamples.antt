@@ -164,7 +164,7 @@ x_is_missing = name _ refl (record { resolved = refl; es = es_ring 1 }) none_giv
 -- Under one function's call.
 
 abbrev pub under_iife : List Item → Program
-under_iife main = program_of (kept_of main [] [] []) (record { require = false; external = codes "ext" ∷ []; iife = true; renames = true; most_modules = 9 }) 0
+under_iife main = program_of (kept_of main [] [] []) (record { require = false; external = codes "ext" ∷ []; iife = true; renames = true; most_modules = 9; in_standard_order = false }) 0
 
 -- `import 'ext';`
 external_there : ProgramFault (under_iife (imports_bare (codes "ext"))) main_js 0 7 0 (ExternalUnderIife main_js (codes "ext"))
@@ -185,7 +185,7 @@ entry_twice : IsDoubledEntry (record { name = codes "a"; file = main_js } ∷ re
 entry_twice = record { i = 0; j = 1; earlier = record { name = codes "a"; file = main_js }; before = lit< tt; first_there = refl; later_there = refl; same = inr refl; none_before = λ k l a b h g e f same. grind arith }
 
 -- no module may be kept
-nothing_fits : (parties : Parties) → Loads parties (record { require = false; external = []; iife = false; renames = true; most_modules = 0 }) nothing_kept main_js (Refused (TooManyModules main_js)) nothing_kept
+nothing_fits : (parties : Parties) → Loads parties (record { require = false; external = []; iife = false; renames = true; most_modules = 0; in_standard_order = false }) nothing_kept main_js (Refused (TooManyModules main_js)) nothing_kept
 nothing_fits parties = no_room refl (lit≤ tt)
 
 -- main: `import { x } from './c';` with c: `export * from 'ext';`: an external may hold x

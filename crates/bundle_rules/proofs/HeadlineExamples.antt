@@ -168,12 +168,12 @@ no_numbers old new outcome j.NumbersEach.stopped = refl
 no_loading : (parties : Parties) (its : Settings) (old new : Kept) (outcome : Outcome) → LoadsAll parties its [] 0 old outcome new → new ≡ old
 no_loading parties its old new outcome j.LoadsAll.over = refl
 no_loading parties its old new outcome (j.LoadsAll.not_loaded at refused) = absurd (not_there _ at)
-no_loading parties its old new outcome (j.LoadsAll.faulty at loads tree fault) = absurd (not_there _ at)
-no_loading parties its old new outcome (j.LoadsAll.not_resolved at loads tree sound asks) = absurd (not_there _ at)
-no_loading parties its old new outcome (j.LoadsAll.goes_on at loads tree sound asks more) = absurd (not_there _ at)
+no_loading parties its old new outcome (j.LoadsAll.faulty at loads _ fault) = absurd (not_there _ at)
+no_loading parties its old new outcome (j.LoadsAll.not_resolved at loads _ sound asks) = absurd (not_there _ at)
+no_loading parties its old new outcome (j.LoadsAll.goes_on at loads _ sound asks more) = absurd (not_there _ at)
 no_loading parties its old new outcome j.LoadsAll.stopped = refl
 no_loading parties its old new outcome (j.LoadsAll.stopped_loaded at loads) = absurd (not_there _ at)
-no_loading parties its old new outcome (j.LoadsAll.stopped_asking at loads tree sound asks) = absurd (not_there _ at)
+no_loading parties its old new outcome (j.LoadsAll.stopped_asking at loads _ sound asks) = absurd (not_there _ at)
 
 stops_with_nothing : (parties : Parties) (its : Settings) (old new : Kept) → Stops parties its [] old new → new ≡ old
 stops_with_nothing parties its old new at_once = refl

@@ -34,6 +34,8 @@ pub mod Programs
 pub mod RebuildExamples
 pub mod RebuildLemmas
 pub mod RenamedExamples
+pub mod PostOrder
+pub mod StandardExamples
 pub mod StatementExamples
 pub mod Trees
 pub mod WholeExamples

@@ -94,7 +94,7 @@ bound_as_a_global : BindsOwn (module_of (runs (h.Ident 0 (codes "Object") 1 Bind
 bound_as_a_global own = own 0 _ refl refl refl
 
 -- plain words of a bundle that is not renamed have no context, and its names keep theirs
-clean_name : IsClean (record { require = false; external = []; iife = false; renames = false; most_modules = 9 }) (module_of (runs (h.Ident 0 (codes "zzz") 4 Reference ∷ [])))
+clean_name : IsClean (record { require = false; external = []; iife = false; renames = false; most_modules = 9; in_standard_order = false }) (module_of (runs (h.Ident 0 (codes "zzz") 4 Reference ∷ [])))
 clean_name = refl
 
 -- Faults.

@@ -48,7 +48,7 @@ abbrev cycle : Program
 cycle = program (imports x x (codes "./a")) (imports_bare (codes "./main") ++ exports_const x one) [] []
 
 one_block : SharesBlock cycle 0 1
-one_block = (along (0, lit< tt, refl) itself, along (0, lit< tt, refl) itself)
+one_block = (along (0, lit< tt, refl) itself, along (0, lit< tt, refl) itself, λ e. cc)
 
 -- A need. Module 0: `b[0] = 133;` and module 1: `const b = 32;`: the first item needs the second
 

@@ -39,7 +39,7 @@ kept_of main a b c = record {
 
 -- `ext` is external
 abbrev pub settings_with : Bool → Settings
-settings_with require = record { require = require; external = codes "ext" ∷ []; iife = false; renames = true; most_modules = 9 }
+settings_with require = record { require = require; external = codes "ext" ∷ []; iife = false; renames = true; most_modules = 9; in_standard_order = false }
 
 -- the program with these modules, with `require` not linked
 abbrev pub program : List Item → List Item → List Item → List Item → Program

@@ -311,13 +311,15 @@ pub record StandsFor (pairing : Pairing) (cause : Cause) (item : TopItem) : Type
 
 -- `IsBlockLaidOut p form tree reading pairing members plan`: the items of a block stand so
 pub data IsBlockLaidOut (p : Program) (form : Form) (tree : List Item) (reading : Reading) (pairing : Pairing) : List ℕ → List Cause → Type 0 where
-  -- a module that shares its block with none and does not request itself: its items in their order, and then its free item
+  -- a module that shares its block with none and does not request itself, and each module where
+  -- the standard's order is asked for: its items in their order, and then its free item
   lone : {m : ℕ} {plan : List Cause} →
-      (Requests p m m → ⊥) →
+      (p.settings.in_standard_order ≡ false → Requests p m m → ⊥) →
       Chosen (IsDue p form) (module_causes p m ++ HoldsNamespace m ∷ []) plan →
       IsBlockLaidOut p form tree reading pairing (m ∷ []) plan
   -- any other block: its items, numbered by modules and then the free ones, in an order that meets what is promised of one
   cycle : {members : List ℕ} {plan : List Cause} (numbered : List Cause) (items : List TopItem) (order : List ℕ) →
+      p.settings.in_standard_order ≡ false →
       ((m : ℕ) → members ≡ m ∷ [] → Requests p m m) →
       Chosen (IsDue p form) (flat_map (module_causes p) members ++ map HoldsNamespace members) numbered →
       AllZip (StandsFor pairing) numbered items →
@@ -344,7 +346,7 @@ pub record IsLaidOut (p : Program) (form : Form) (reading : Reading) (tree : Lis
   pub is_list : IsList p list
   pub blocks : List (List ℕ)
   pub are_blocks : AreBlocks p list blocks
-  pub follows : FollowsRequests p blocks
+  pub follows : p.settings.in_standard_order ≡ false → FollowsRequests p blocks
   pub front : List Cause
   pub middle : List Cause
   pub back : List Cause

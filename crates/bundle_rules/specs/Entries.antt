@@ -264,13 +264,14 @@ requests_of_item _ = []
 abbrev pub declared_requests : List Item → List Text
 declared_requests tree = flat_map (λ top. requests_of_item top.items) (top_items tree)
 
--- how a bundler is set up: whether literal calls of `require` are linked, which texts are external, whether the bundle is one function's call, whether its names are renamed, so that their symbols alone tell them apart, and how many modules may be kept
+-- how a bundler is set up: whether literal calls of `require` are linked, which texts are external, whether the bundle is one function's call, whether its names are renamed, so that their symbols alone tell them apart, how many modules may be kept, and whether modules of a cycle too stand in the order of the list
 pub record Settings : Type 0 where
   pub require : Bool
   pub external : List Text
   pub iife : Bool
   pub renames : Bool
   pub most_modules : ℕ
+  pub in_standard_order : Bool
 
 -- the literal calls of `require` that are linked
 abbrev pub linked_calls : Settings → (ℕ → Bool) → List Item → List RequireCall

@@ -115,7 +115,12 @@ abbrev pub causes_in_order : Program → List ℕ → List Cause
 causes_in_order p list =
     flat_map import_causes (externals p list) ++ Helps ∷ (flat_map (λ m. module_causes p m ++ HoldsNamespace m ∷ []) list ++ map Stars (externals p list) ++ Exports ∷ [])
 
--- corollary: without cycles modules stand in post-order of requests, and each module's items in their order
+-- corollary: without cycles, and with them where the standard's order is asked for, modules stand in
+-- post-order of requests, and each module's items in their order
 abbrev pub StandsInPostOrder : Program → Form → Reading → List Item → Type 0
 StandsInPostOrder p form reading tree =
-    (pairing : Pairing) (list : List ℕ) → IsAcyclic p → IsList p list → IsLaidOut p form reading tree pairing → Chosen (IsDue p form) (causes_in_order p list) pairing.plan
+    (pairing : Pairing) (list : List ℕ) →
+    IsAcyclic p ⊎ (p.settings.in_standard_order ≡ true) →
+    IsList p list →
+    IsLaidOut p form reading tree pairing →
+    Chosen (IsDue p form) (causes_in_order p list) pairing.plan

@@ -10,7 +10,7 @@ use Rattle.bundle_rules.specs.Scopes.{Es, Scope, same_scope}
 use Rattle.bundle_rules.specs.Declarations.{Reading, BySymbol, ByContext}
 use Rattle.bundle_rules.specs.Denotes.{Denoted, Bound, Global, denoted_at}
 use Rattle.bundle_rules.specs.Deferred.{runs_later}
-use Rattle.bundle_order_graph.specs.Walks.{Path}
+use Rattle.bundle_order_graph.specs.Walks.{Path, IsSettled}
 use Rattle.bundle_rules.specs.Nodes.{Text, in_field, node_at}
 use Rattle.bundle_rules.specs.Statements.{TopItem}
 use Rattle.bundle_rules.specs.Entries.{is_call_head}
@@ -313,8 +313,17 @@ pub record IsOrderOf (g : Group) (order : List ℕ) : Type 0 where
   pub all : (s : ℕ) → (s < length g.items) ↔ Contains order s
   pub once : IsDistinct nat_eq order
 
--- the order that is promised. Own order: an item stands before an earlier one of its module only where a path of steps leads from that one back to it. Needs: an item stands before one that it needs only where a path of dependencies leads from that one back to it, and a path of steps from it to itself
+-- the order that is promised. Own order: an item stands before an earlier one of its module only where a path of steps leads from that one back to it. Needs: an item stands before one that it needs only where a path of dependencies leads from that one back to it, and a path of steps from it to itself.
+-- Numbers: the items below a bound stand as they are numbered, where from none of them a path of
+-- steps leads to itself or to a later one of them. With the bound at all items none is moved
 pub record IsGoodOrder (g : Group) (order : List ℕ) : Type 0 where
   pub order_of : IsOrderOf g order
   pub own : (m s t : ℕ) → IsOf g s m → IsOf g t m → t < s → StandsBefore order s t → Path (Step g) t s
   pub needs : (s t : ℕ) → Needs g s t → StandsBefore order s t → Path (Depends g) t s × Path (Step g) s s
+  pub as_numbered : (bound s t : ℕ) →
+      bound ≤ length g.items →
+      IsSettled (Step g) bound →
+      s < bound →
+      t < bound →
+      StandsBefore order s t →
+      s < t

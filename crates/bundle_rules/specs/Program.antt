@@ -1,6 +1,6 @@
 -- What a bundle is made of: modules by their numbers, which file each is and where its specifiers lead; and the graph of
 -- their requests (ECMA-262, 16.2.1.5). Numbers may have gaps, and two of them may be one file.
-use Rattle.std.specs.Prelude.{ℕ, Bool, List, [], ◌∷◌, Option, None, Contains, filter_map, option_map, unwrap_or, if◌then◌else◌}
+use Rattle.std.specs.Prelude.{ℕ, Bool, List, [], ◌∷◌, Option, None, Contains, filter_map, option_map, unwrap_or, if◌then◌else◌, ◌≡◌, true}
 use Rattle.bundle_syntax.specs.Item.{Item}
 use Rattle.bundle_tree_names.specs.FileName.{Name}
 use Rattle.bundle_order_graph.specs.Walks.{Reaches}
@@ -64,9 +64,13 @@ IsReached p m = Reaches (Requests p) p.entry m
 abbrev pub IsList : Program → List ℕ → Type 0
 IsList p list = Lists (requested p) [] [] (p.entry ∷ []) list
 
--- two modules are in one block: each reaches the other
+-- two modules are in one block: each reaches the other, and where the standard's order is asked for,
+-- they are the same
 abbrev pub SharesBlock : Program → ℕ → ℕ → Type 0
-SharesBlock p m n = Reaches (Requests p) m n × Reaches (Requests p) n m
+SharesBlock p m n =
+    Reaches (Requests p) m n
+    × Reaches (Requests p) n m
+    × (p.settings.in_standard_order ≡ true → m ≡ n)
 
 -- the blocks of a program whose list is this: in the order of their last members, with the members in the order of the list
 abbrev pub AreBlocks : Program → List ℕ → List (List ℕ) → Type 0

@@ -4,7 +4,7 @@
 -- What is kept by numbers, found by names and requests.
 -- What look-ups give among plain data, and at which place a name stands first.
 use mathlib.Core.Bool.{beq}
-use Rattle.std.proofs.Common.{◌≡◌, ℕ, zero, suc, ◌+◌, ◌<◌, ◌⊎◌, inl, inr, Bool, true, false, cond, not, nat_lt, List, [], ◌∷◌, ◌++◌, map, length, Option, Some, None, IfSome, position, slice_get, get_or, eqb, refl, sym, ap, subst, ◌∙◌, true≢false, arith, lt-ltb, le-ltb, BTreeMap, Ordering, is_eq, ◌==◌, nat_cmp, is_some, string_bytes, string_cmp, ◌&&◌, OnSome, Result, Ok, Err, OnErr, bytes_eq, Global, String, ap₂, ◌≤◌, IsSome, Contains, IsOk, OnOk}
+use Rattle.std.proofs.Common.{◌≡◌, ℕ, zero, suc, ◌+◌, ◌<◌, ◌⊎◌, inl, inr, Bool, true, false, cond, not, nat_lt, List, [], ◌∷◌, ◌++◌, map, length, Option, Some, None, IfSome, position, slice_get, get_or, eqb, refl, sym, ap, subst, ◌∙◌, true≢false, arith, lt-ltb, le-ltb, BTreeMap, Ordering, is_eq, ◌==◌, nat_cmp, is_some, string_bytes, string_cmp, ◌&&◌, ◌||◌, OnSome, Result, Ok, Err, OnErr, bytes_eq, Global, String, ap₂, ◌≤◌, IsSome, Contains, IsOk, OnOk}
 use Rattle.std.specs.Cmp.{IsEquivalence, unsigned_ties, on_equiv, and_equiv}
 use Rattle.std.specs.List.{position_or_len, list_any}
 use Rattle.std.specs.Map.{lookup}
@@ -92,6 +92,16 @@ module _ {K : Type 0} (t : K → Bool) where
         where
           one_more : (n : ℕ) → 1 + n ≡ suc n
           one_more n = omega arith
+
+  -- a search ends at a key where one passes
+  any-position : (ks : List K) → list_any t ks ≡ is_some (position t ks)
+  any-position [] = refl
+  any-position (x ∷ ks) = ap (λ b. t x || b) (any-position ks) ∙ by (t x) (position t ks) ∙ sym (ap is_some (position-cons x ks))
+    where
+      by : (b : Bool) (o : Option ℕ) → (b || is_some o) ≡ is_some (cond b (Some 0) (option_map suc o))
+      by true o = refl
+      by false None = refl
+      by false (Some i) = refl
 
   -- no key passes where a search finds none
   pub nowhere_at : (ks : List K) (i : ℕ) (k : K) → position t ks ≡ None → slice_get ks i ≡ Some k → t k ≡ false
@@ -516,6 +526,14 @@ below_push {X} count list n x below less = λ i e at. elim (push_cases list (n, 
   | inl old ↦ below i e old
   | inr last ↦ subst (λ (b : ℕ × X). b.0 < count) last.1 less
 ]
+
+-- whether a file is among those that are named
+pub file_any : (name : Name) (files : List (Bool × Text)) → list_any (λ its. name_eq name (file_named its)) files ≡ is_some (position (name_eq name) (map file_named files))
+file_any name files = over files ∙ any-position (name_eq name) (map file_named files)
+  where
+    over : (fs : List (Bool × Text)) → list_any (λ its. name_eq name (file_named its)) fs ≡ list_any (name_eq name) (map file_named fs)
+    over [] = refl
+    over (f ∷ fs) = ap (λ b. name_eq name (file_named f) || b) (over fs)
 
 -- numbers of files are those of their names
 pub below_names : {X : Type 0} (files : List (Bool × Text)) (list : List (ℕ × X)) → AreBelow (length files) list → AreBelow (length (map file_named files)) list

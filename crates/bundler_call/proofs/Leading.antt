@@ -45,6 +45,7 @@ use Rattle.bundle_rules.proofs.KeptLemmas.{stays}
 use Rattle.bundle_rules.specs.Nodes.{Text}
 use Rattle.bundle_rules.specs.Program.{Loaded}
 use Rattle.bundle_tree.specs.declared.load.ModuleData.{ModuleData}
+use Rattle.bundler_call.specs.Held.{file_named}
 use Rattle.bundler_call.specs.KeptFiles.{asked_of}
 use Rattle.bundler_call.specs.declared.kept.Request.{Request}
 use Rattle.bundler_call.proofs.Holding.{push_cases as one_more_at}
@@ -775,28 +776,28 @@ list_told es it told is doubled = subst (λ o. IfSome o (IsFaultOfList es)) (sym
 module _ (entries : List (String Global × FileName)) (i : ℕ) (entry : String Global × FileName) (within : i < length entries) (at : get_or entries i entry ≡ entry)
     (names : List (Bor (List ℕ))) (text : List ℕ) (is_new_name : Bool) (of_name : text ≡ string_bytes entry.0)
     (added_name : is_new_name ≡ not (list_any (λ (y : Bor (List ℕ)). bytes_eq text y.now) names)) (names_so_far : map (λ (key : Bor (List ℕ)). key.now) names ≡ map (λ (e : Entry). e.name) (take i (map entry_of entries)))
-    (files : List (Bor FileName)) (is_new_file : Bool)
-    (added_file : is_new_file ≡ not (list_any (λ (y : Bor FileName). name_eq (name_of entry.1) (name_of y.now)) files)) (files_so_far : map (λ (key : Bor FileName). name_of key.now) files ≡ map (λ (e : Entry). e.file) (take i (map entry_of entries)))
+    (files : List (Bool × List ℕ)) (is_new_file : Bool)
+    (added_file : is_new_file ≡ not (list_any (λ (y : Bool × List ℕ). name_eq (name_of entry.1) (file_named y)) files)) (files_so_far : map file_named files ≡ map (λ (e : Entry). e.file) (take i (map entry_of entries)))
     (apart : AreApartBefore (map entry_of entries) i) where
   here : slice_get (map entry_of entries) i ≡ Some (entry_of entry)
   here = entry_at entries i entry within at
 
   -- both are new
-  pub one_more : (more_names : List (Bor (List ℕ))) (name : Bor (List ℕ)) (more_files : List (Bor FileName)) (file : Bor FileName) → name.now ≡ text → name_of file.now ≡ name_of entry.1 → (is_new_name ≡ true) × (is_new_file ≡ true)
-      → more_names ≡ insert_key (λ (x y : Bor (List ℕ)). bytes_eq x.now y.now) names name → more_files ≡ insert_key (λ (x y : Bor FileName). name_eq (name_of x.now) (name_of y.now)) files file
-      → (map (λ (key : Bor (List ℕ)). key.now) more_names ≡ map (λ (e : Entry). e.name) (take (i + 1) (map entry_of entries))) × (map (λ (key : Bor FileName). name_of key.now) more_files ≡ map (λ (e : Entry). e.file) (take (i + 1) (map entry_of entries))) × AreApartBefore (map entry_of entries) (i + 1)
-  one_more more_names name more_files file same_name same_file news put_name put_file =
+  pub one_more : (more_names : List (Bor (List ℕ))) (name : Bor (List ℕ)) (more_files : List (Bool × List ℕ)) → name.now ≡ text → (is_new_name ≡ true) × (is_new_file ≡ true)
+      → more_names ≡ insert_key (λ (x y : Bor (List ℕ)). bytes_eq x.now y.now) names name → map file_named more_files ≡ map file_named files ++ name_of entry.1 ∷ []
+      → (map (λ (key : Bor (List ℕ)). key.now) more_names ≡ map (λ (e : Entry). e.name) (take (i + 1) (map entry_of entries))) × (map file_named more_files ≡ map (λ (e : Entry). e.file) (take (i + 1) (map entry_of entries))) × AreApartBefore (map entry_of entries) (i + 1)
+  one_more more_names name more_files same_name news put_name put_file =
       let front : take (i + 1) (map entry_of entries) ≡ take i (map entry_of entries) ++ entry_of entry ∷ [] =
       take_more (map entry_of entries) i (entry_of entry) (slice_get_within (map entry_of entries) i (entry_of entry) here) ∙ ap (λ x. take i (map entry_of entries) ++ x ∷ []) (get_or_from_slice_get (map entry_of entries) i (entry_of entry) (entry_of entry) here) in
       let named : map (λ (key : Bor (List ℕ)). key.now) more_names ≡ map (λ (e : Entry). e.name) (take i (map entry_of entries)) ++ text ∷ [] =
       keys_more bytes_eq bytes_eq-Decides (λ (e : Entry). e.name) (λ (key : Bor (List ℕ)). key.now) names text is_new_name (take i (map entry_of entries)) added_name names_so_far more_names name same_name news.0 put_name in
-      let filed : map (λ (key : Bor FileName). name_of key.now) more_files ≡ map (λ (e : Entry). e.file) (take i (map entry_of entries)) ++ name_of entry.1 ∷ [] =
-      keys_more name_eq name_eq-Decides (λ (e : Entry). e.file) (λ (key : Bor FileName). name_of key.now) files (name_of entry.1) is_new_file (take i (map entry_of entries)) added_file files_so_far more_files file same_file news.1 put_file in (
+      let filed : map file_named more_files ≡ map (λ (e : Entry). e.file) (take i (map entry_of entries)) ++ name_of entry.1 ∷ [] =
+      put_file ∙ ap (λ l. l ++ name_of entry.1 ∷ []) files_so_far in (
         named ∙ ap (λ x. map (λ (e : Entry). e.name) (take i (map entry_of entries)) ++ x ∷ []) of_name ∙ sym (map-append (λ (e : Entry). e.name) (take i (map entry_of entries)) (entry_of entry ∷ [])) ∙ sym (ap (map (λ (e : Entry). e.name)) front),
         filed ∙ sym (map-append (λ (e : Entry). e.file) (take i (map entry_of entries)) (entry_of entry ∷ [])) ∙ sym (ap (map (λ (e : Entry). e.file)) front),
         apart_more (map entry_of entries) i (entry_of entry) here
             (λ k e there same. new_at bytes_eq bytes_eq-Decides (λ (x : Entry). x.name) (λ (key : Bor (List ℕ)). key.now) names text is_new_name (take i (map entry_of entries)) added_name names_so_far news.0 k e there (same ∙ sym of_name))
-            (new_at name_eq name_eq-Decides (λ (x : Entry). x.file) (λ (key : Bor FileName). name_of key.now) files (name_of entry.1) is_new_file (take i (map entry_of entries)) added_file files_so_far news.1)
+            (new_at name_eq name_eq-Decides (λ (x : Entry). x.file) file_named files (name_of entry.1) is_new_file (take i (map entry_of entries)) added_file files_so_far news.1)
             apart,
       )
 
@@ -805,6 +806,6 @@ module _ (entries : List (String Global × FileName)) (i : ℕ) (entry : String 
   not_both either = elim either [
     | inl known ↦ (let found = known_at bytes_eq bytes_eq-Decides (λ (x : Entry). x.name) (λ (key : Bor (List ℕ)). key.now) names text is_new_name (take i (map entry_of entries)) added_name names_so_far known in
         first_doubled (map entry_of entries) i (entry_of entry) here found.0 found.1 found.2 (inl (found.3 ∙ of_name)) apart)
-    | inr known ↦ (let found = known_at name_eq name_eq-Decides (λ (x : Entry). x.file) (λ (key : Bor FileName). name_of key.now) files (name_of entry.1) is_new_file (take i (map entry_of entries)) added_file files_so_far known in
+    | inr known ↦ (let found = known_at name_eq name_eq-Decides (λ (x : Entry). x.file) file_named files (name_of entry.1) is_new_file (take i (map entry_of entries)) added_file files_so_far known in
         first_doubled (map entry_of entries) i (entry_of entry) here found.0 found.1 found.2 (inr found.3) apart)
   ]

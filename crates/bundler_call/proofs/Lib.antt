@@ -1,5 +1,6 @@
 pub mod Holding
 pub mod Growing
+pub mod Calls
 pub mod Unasked
 pub mod Leading
 pub mod Sources

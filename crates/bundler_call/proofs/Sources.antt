@@ -15,7 +15,6 @@ use Rattle.std.specs.declared.vec.Vec.{Vec}
 use Rattle.std.proofs.lemmas.List.Quantifiers.{position-Some}
 use Rattle.bundle_tree_names.specs.FileName.{Name, name_of, name_eq}
 use Rattle.bundle_tree_names.specs.declared.file_name.FileName.{FileName}
-use Rattle.bundle_tree_names.specs.declared.config.Config.{Config}
 use Rattle.bundle_tree_names.specs.declared.error.Error.{Error}
 use Rattle.bundle_syntax.specs.Item.{Item}
 use Rattle.bundle_tree_ast.specs.declared.expr.Expr.{Expr}
@@ -47,6 +46,7 @@ use Rattle.bundler_entry.specs.Made.{AreOfAnswers, IsContextsFaultOf, IsRefusedM
 use Rattle.bundler_entry.specs.Merged.{IsMergedIn}
 use Rattle.bundler_entry.specs.Unlinked.{error_of}
 use Rattle.bundler_entry.specs.declared.call.EntryCall.{EntryCall}
+use Rattle.bundler_entry.specs.declared.call.OrderedConfig.{OrderedConfig}
 use Rattle.bundler_entry.specs.declared.entry.MetaAnswer.{MetaAnswer}
 use Rattle.bundler_entry.specs.declared.linked.LinkedEntry.{LinkedEntry}
 use Rattle.bundler_entry.specs.declared.unlinked.EntryError.{EntryError}
@@ -266,7 +266,7 @@ module _ (may_load : Name → ModuleData → Type 0) (may_fail_load : Name → T
   all_bundled_as settings kept (entry ∷ entries) (bundle ∷ bundles) all = (bundled_as settings kept entry bundle all.0, all_bundled_as settings kept entries bundles all.1)
 
 -- ---- bundling
-module _ (parties : Parties) (config : Config) (kept : Kept) (list : LoadList) where
+module _ (parties : Parties) (config : OrderedConfig) (kept : Kept) (list : LoadList) where
   -- the program of an entry whose file has this number
   program_here : (entry : String Global × FileName) (id : ℕ) → HasFileNumber kept entry id → IsProgramOf kept (settings_of config) (entry_of entry) (program_of kept (settings_of config) id)
   program_here entry id number = record { number = id; its_number = number; is = refl }
@@ -338,7 +338,7 @@ module _ (parties : Parties) (config : Config) (kept : Kept) (list : LoadList) w
 
 -- What is finished.
 
-module _ (config : Config) where
+module _ (config : OrderedConfig) where
   -- these are finished of bundles of which these are left
   abbrev pub AreFinishedSoFar : (merged rest made : List Bundle) → Type 0
   AreFinishedSoFar merged rest made =
@@ -533,7 +533,7 @@ read_faulty file given refusal told loaded is =
     subst (λ (x : Loaded). IfSome (fault_of refusal) (IsFirstTreeFault file x.items)) is (told_as (fault_of refusal) _ _ (first_fault file (module_items 0 given.module)) told)
 
 -- that it has none, and its requests
-pub read_faultless : (config : Config) (file : Name) (given : ModuleData) (texts : List Text) → ((settings : Settings) → Links config settings → IsRequestTable settings file (module_items 0 given.module) (t.Given texts)) → (loaded : Loaded) → kept_as given ≡ loaded → IsFaultless file loaded.items × (texts ≡ requests_in (settings_of config) loaded.items)
+pub read_faultless : (config : OrderedConfig) (file : Name) (given : ModuleData) (texts : List Text) → ((settings : Settings) → Links config.base settings → IsRequestTable settings file (module_items 0 given.module) (t.Given texts)) → (loaded : Loaded) → kept_as given ≡ loaded → IsFaultless file loaded.items × (texts ≡ requests_in (settings_of config) loaded.items)
 read_faultless config file given texts table loaded is =
     let its = table (settings_of config) (refl, refl) in
     subst (λ (x : Loaded). IsFaultless file x.items × (texts ≡ requests_in (settings_of config) x.items)) is (faultless file (module_items 0 given.module) its.0, its.1 ∙ sym (requests (settings_of config) (module_items 0 given.module)))
@@ -623,6 +623,7 @@ call_of kept list call entry read its = record {
   links = (refl, refl);
   iife = refl;
   renames = refl;
+  in_standard_order = refl;
   begins = refl;
   there = subst (λ ids. Contains ids entry) (sym read.ids) its.1;
   named = file_numbered kept (name_of call.entry.now) entry its.0;

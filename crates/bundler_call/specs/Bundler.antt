@@ -9,9 +9,9 @@ use Rattle.bundle_tree.specs.declared.resolve.Resolve.{Ghosts as ResolveGhosts}
 use Rattle.bundle_tree_names.specs.FileName.{Name, name_of}
 use Rattle.bundle_tree_names.specs.declared.file_name.FileName.{FileName}
 use Rattle.bundle_rules.specs.Kept.{Kept, number_in}
-use Rattle.bundle_tree_names.specs.declared.config.Config.{Config}
 use Rattle.bundle_rules.specs.Entries.{Settings}
 use Rattle.bundle_rules.specs.Faults.{Parties}
+use Rattle.bundler_entry.specs.declared.call.OrderedConfig.{OrderedConfig}
 use Rattle.bundler_call.specs.Kept.{kept_of, parties_of, settings_of}
 use Rattle.bundler_call.specs.declared.bundler.Bundler.{Bundler}
 
@@ -27,15 +27,15 @@ loader_of bundler = bundler.library.loader
 abbrev pub resolver_of : {L R H : Type 0} {Is : H → Type 0} → Bundler L R H Is → R
 resolver_of bundler = bundler.library.resolver
 
--- its settings
-abbrev pub config_of : {L R H : Type 0} {Is : H → Type 0} → Bundler L R H Is → Config
+-- its settings, and the order that is asked for beside them
+abbrev pub config_of : {L R H : Type 0} {Is : H → Type 0} → Bundler L R H Is → OrderedConfig
 config_of bundler = bundler.config
 
 -- its hook
 abbrev pub hook_of : {L R H : Type 0} {Is : H → Type 0} → Bundler L R H Is → DynBox H Global Is
 hook_of bundler = bundler.hook
 
--- its settings, in the words of the definitions
+-- both, in the words of the definitions
 abbrev pub settings_held : {L R H : Type 0} {Is : H → Type 0} → Bundler L R H Is → Settings
 settings_held bundler = settings_of (config_of bundler)
 

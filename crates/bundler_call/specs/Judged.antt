@@ -4,7 +4,6 @@ use Rattle.std.specs.declared.alloc.Global.{Global}
 use Rattle.std.specs.declared.string.String.{String}
 use Rattle.bundle_tree_listed.specs.Tree.{module_items}
 use Rattle.bundle_tree_names.specs.FileName.{Name}
-use Rattle.bundle_tree_names.specs.declared.config.Config.{Config}
 use Rattle.bundle_tree_names.specs.declared.file_name.FileName.{FileName}
 use Rattle.bundle_tree_names.specs.declared.error.Error.{Error}
 use Rattle.bundle_tree.specs.declared.load.ModuleData.{ModuleData}
@@ -14,6 +13,7 @@ use Rattle.bundle_rules.specs.Faults.{Fault, DoubledEntry, Parties, fault_of}
 use Rattle.bundle_rules.specs.Headline.{IsBundleOf}
 use Rattle.bundle_rules.specs.Judging.{Entry, Outcome, GoesOn, Refused, Stopped, Refuses, Stops, IsDoubledEntry}
 use Rattle.bundler_entry.specs.Finished.{IsFinished}
+use Rattle.bundler_entry.specs.declared.call.OrderedConfig.{OrderedConfig}
 use Rattle.bundler_call.specs.Answer.{bundled_of}
 use Rattle.bundler_call.specs.Kept.{entry_of, parties_of, settings_of}
 use Rattle.bundler_call.specs.declared.bundle.Bundle.{Bundle}
@@ -74,13 +74,13 @@ IsBundledFor parties settings kept entry bundle =
     IsBundleOf parties settings kept (bundled_of bundle) (entry_of entry)
 
 -- a bundle is another one, finished
-pub record IsFinishedBundle (config : Config) (merged made : Bundle) : Type 0 where
+pub record IsFinishedBundle (config : OrderedConfig) (merged made : Bundle) : Type 0 where
   pub kind : made.kind ≡ merged.kind
   pub id : made.id ≡ merged.id
-  pub tree : IsFinished config (module_items 0 merged.module) (module_items 0 made.module)
+  pub tree : IsFinished config.base (module_items 0 merged.module) (module_items 0 made.module)
 
 -- a bundle, once it is finished, is that of an entry, over what is kept
-abbrev pub IsMergedBundle : Parties → Config → Kept → String Global × FileName → Bundle → Type 0
+abbrev pub IsMergedBundle : Parties → OrderedConfig → Kept → String Global × FileName → Bundle → Type 0
 IsMergedBundle parties config kept entry merged =
     (made : Bundle) → IsFinishedBundle config merged made →
     IsBundledFor parties (settings_of config) kept entry made

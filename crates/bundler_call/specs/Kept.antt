@@ -7,7 +7,6 @@ use Rattle.bundle_tree_ast.specs.declared.expr.Expr.{Expr}
 use Rattle.bundle_tree_ast.specs.declared.prop.KeyValueProp.{KeyValueProp}
 use Rattle.bundle_tree_listed.specs.Tree.{module_items}
 use Rattle.bundle_tree_names.specs.FileName.{Name, name_of}
-use Rattle.bundle_tree_names.specs.declared.config.Config.{Config}
 use Rattle.bundle_tree_names.specs.declared.file_name.FileName.{FileName}
 use Rattle.bundle_tree.specs.declared.load.ModuleData.{ModuleData}
 use Rattle.bundle_rules.specs.Nodes.{Text}
@@ -19,6 +18,7 @@ use Rattle.bundle_rules.specs.Judging.{Entry, Grows, requests_in}
 use Rattle.bundler_call.specs.KeptFiles.{names_in, trees_in, resolved_in}
 use Rattle.bundler_call.specs.declared.kept.Kept as store
 use Rattle.bundle_link.specs.Programs.{is_one_call}
+use Rattle.bundler_entry.specs.declared.call.OrderedConfig.{OrderedConfig}
 pub use Rattle.bundler_entry.specs.Source.{kept_as}
 pub use Rattle.bundler_entry.specs.Hook.{HoldsProperties}
 
@@ -55,8 +55,15 @@ parties_of may_load may_fail_load may_resolve may_fail_resolve may_give may_fail
 }
 
 -- the settings
-abbrev pub settings_of : Config → Settings
-settings_of config = record { require = config.require; external = map string_bytes config.external_modules.items; iife = is_one_call config.module; renames = not config.disable_hygiene; most_modules = config.max_modules }
+abbrev pub settings_of : OrderedConfig → Settings
+settings_of config = record {
+  require = config.base.require;
+  external = map string_bytes config.base.external_modules.items;
+  iife = is_one_call config.base.module;
+  renames = not config.base.disable_hygiene;
+  most_modules = config.base.max_modules;
+  in_standard_order = config.in_standard_order;
+}
 
 -- an entry: the name of its bundle, and its file
 abbrev pub entry_of : String Global × FileName → Entry

@@ -11,3 +11,4 @@ pub mod Loading
 pub mod Refusal
 pub mod Judged
 pub mod Linking
+pub mod Many

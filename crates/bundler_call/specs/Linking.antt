@@ -8,7 +8,6 @@ use Rattle.bundle_tree_ast.specs.declared.module.Module.{Module}
 use Rattle.bundle_tree_listed.specs.Tree.{module_items}
 use Rattle.bundle_tree_names.specs.FileName.{Name, name_of}
 use Rattle.bundle_tree_names.specs.ModuleIdGenerator.{IsDistinct}
-use Rattle.bundle_tree_names.specs.declared.config.Config.{Config}
 use Rattle.bundle_tree_names.specs.declared.file_name.FileName.{FileName}
 use Rattle.bundle_rules.specs.Entries.{Settings}
 use Rattle.bundle_rules.specs.Faults.{Fault, Parties, fault_of}
@@ -19,6 +18,7 @@ use Rattle.bundler_entry.specs.Finished.{IsFinished}
 use Rattle.bundler_entry.specs.Made.{IsContextsFaultOf, IsEntryBundle}
 use Rattle.bundler_entry.specs.Source.{IsReadProgram as IsReadAs}
 use Rattle.bundler_entry.specs.Unlinked.{error_of}
+use Rattle.bundler_entry.specs.declared.call.OrderedConfig.{OrderedConfig}
 use Rattle.bundler_entry.specs.declared.source.ReadFiles.{ReadFiles as Read}
 use Rattle.bundler_entry.specs.declared.unlinked.EntryError.{EntryError}
 use Rattle.bundler_call.specs.Kept.{parties_of, IsBounded}
@@ -55,11 +55,11 @@ abbrev pub answered_by : (Name → Bool → List (KeyValueProp Expr) → Type 0)
 answered_by may_give may_fail_hook = parties_of (λ file given. ⊥) (λ file. ⊥) (λ file specifier found. ⊥) (λ file specifier. ⊥) may_give may_fail_hook
 
 -- a module is what is merged of a program that is accepted: finished, it is the program's bundle
-pub record IsMergedFor (parties : Parties) (config : Config) (p : Program)
+pub record IsMergedFor (parties : Parties) (config : OrderedConfig) (p : Program)
     (merged : Module) : Type 0 where
   pub accepted : AcceptsProgram p parties
   pub bundle : (made : Module) →
-      IsFinished config (module_items 0 merged) (module_items 0 made) →
+      IsFinished config.base (module_items 0 merged) (module_items 0 made) →
       IsEntryBundle p parties.hooks (module_items 0 made)
 
 -- why a program makes no module: its first fault or the first of the hook's answers, or want of

@@ -1,6 +1,6 @@
 //! The bundler.
 
-ghost use Rattle.std.specs.Prelude.{◌≡◌, ◌<◌, [], Some, IfOk, IfErr, IfSome, OnOk, length, map, string_bytes};
+ghost use Rattle.std.specs.Prelude.{◌≡◌, ◌<◌, false, true, List, [], Some, IfOk, IfErr, IfSome, OnOk, length, map, string_bytes};
 ghost use Rattle.std.specs.List.{AllZip};
 ghost use Rattle.bundle_tree_names.specs.FileName.{name_of};
 ghost use Rattle.bundle_rules.specs.Faults.{DoubledEntry, fault_of};
@@ -14,15 +14,19 @@ ghost use Rattle.bundler_call.specs.Judged.{EndsJudging, AreEntriesApart, IsFaul
 ghost use Rattle.bundler_call.specs.Kept.{entry_of, kept_of, settings_of, IsBounded};
 ghost use Rattle.bundler_call.specs.Library.{GoesFurther, MovesOn};
 ghost use Rattle.bundler_call.specs.Linking.{answered_by, IsListLoaded, IsNumberedOn, IsReadListOf, IsRefusalOfEntries};
+ghost use Rattle.bundler_call.specs.Many.{AnsweredCall, AreAnswered, IsHeadlineOfCalls, and_call};
 ghost use Rattle.bundler_call.specs.Loading.{files_on, AreMet, AreFilesNumbered, AreFilesSound};
 ghost use Rattle.bundler_call.specs.declared.load.LoadList.{LoadList};
 
 use crate::Kept as Keeping;
 use crate::bundle::{Bundle, BundleKind};
+use crate::kept::note_file;
 use crate::library::{Asking, Library};
 use crate::linked::module_on;
 use crate::load::{LoadList, load_all};
+use crate::marked::Marked;
 use crate::program::program_on;
+use bundle_scope_denote::texts::TextSet;
 use bundle_tree::hook::Hook;
 use bundle_tree::load::{Load, ModuleData};
 use bundle_tree::resolve::Resolve;
@@ -30,8 +34,7 @@ use bundle_tree_names::ModuleId;
 use bundle_tree_names::config::Config;
 use bundle_tree_names::error::Error;
 use bundle_tree_names::file_name::FileName;
-use bundler_entry::{EntryCall, EntryError, ReadFiles, finished};
-use indexmap::IndexSet;
+use bundler_entry::{EntryCall, EntryError, OrderedConfig, ReadFiles, finished};
 use std::alloc::{AllocError, Global};
 
 /// Makes bundles. It keeps the numbers of files, the modules that were loaded and the files that their
@@ -39,13 +42,37 @@ use std::alloc::{AllocError, Global};
 #[derive(Drop)]
 pub struct Bundler<L: Load, R: Resolve> {
     library: Library<L, R>,
-    config: Config,
+    config: OrderedConfig,
     hook: Box<dyn Hook>,
 }
 
 impl<L: Load + Drop, R: Resolve + Drop> Bundler<L, R> {
     /// A bundler that keeps nothing yet. It takes no memory.
     pub fn new(alloc: Global, loader: L, resolver: R, config: Config, hook: Box<dyn Hook>) -> Self
+        ensures empty { kept_by result ≡ nothing_kept }
+        ensures loader { loader_of result ≡ loader }
+        ensures resolver { resolver_of result ≡ resolver }
+        ensures config { config_of result ≡ record { base = config; in_standard_order = false } }
+        ensures hook { hook_of result ≡ hook }
+    {
+        Bundler {
+            library: Library::new(alloc, loader, resolver),
+            config: OrderedConfig {
+                base: config,
+                in_standard_order: false,
+            },
+            hook,
+        }
+    }
+
+    /// The same of a configuration with the order that is asked for.
+    pub fn with_order(
+        alloc: Global,
+        loader: L,
+        resolver: R,
+        config: OrderedConfig,
+        hook: Box<dyn Hook>,
+    ) -> Self
         ensures empty { kept_by result ≡ nothing_kept }
         ensures loader { loader_of result ≡ loader }
         ensures resolver { resolver_of result ≡ resolver }
@@ -59,13 +86,28 @@ impl<L: Load + Drop, R: Resolve + Drop> Bundler<L, R> {
         }
     }
 
+    /// The same bundler, whose bundles have the modules in the order in which ECMA-262 evaluates them (16.2.1.5.2:
+    /// post-order of requests), each by itself, those of a cycle too.
+    pub fn in_standard_order(self) -> Self
+        ensures config { config_of result ≡ record (config_of self) { in_standard_order = true } }
+        ensures kept { kept_by result ≡ kept_by self }
+        ensures loader { loader_of result ≡ loader_of self }
+        ensures resolver { resolver_of result ≡ resolver_of self }
+        ensures hook { hook_of result ≡ hook_of self }
+    {
+        let mut bundler = self;
+        bundler.config.in_standard_order = true;
+        bundler
+    }
+
     /// A bundle for each entry, a name and a file, in their order. Nobody is asked where there is no entry.
     ///
     /// What a bundle of an entry holds stands in `docs/DEFINITIONS.md`, and so does why there may be none, and
     /// which refusal comes first.
     ///
     /// What was kept stays kept, after a refusal too, and what comes to it are answers of the loader and
-    /// the resolver to what the call has to ask. A module is asked for only where it is not kept.
+    /// the resolver to what the call has to ask. A module is asked for only where it is not kept. Over many calls,
+    /// refused ones among them, each answer is right for what was kept before it, and what is kept only grows.
     pub fn bundle(
         &mut self,
         alloc: Global,
@@ -75,6 +117,12 @@ impl<L: Load + Drop, R: Resolve + Drop> Bundler<L, R> {
             (parties_held L.Load R.Resolve ⟦<dyn Hook as Hook>⟧ self.old)
             (settings_held self.old) (map entry_of entries.items)
             (kept_by self.old) (answer_told result) (kept_by self.new) }
+        ensures calls { (first : Kept) (calls : List AnsweredCall) →
+            AreAnswered (parties_held L.Load R.Resolve ⟦<dyn Hook as Hook>⟧ self.old)
+            (settings_held self.old) first calls (kept_by self.old) →
+            IsHeadlineOfCalls (parties_held L.Load R.Resolve ⟦<dyn Hook as Hook>⟧ self.old)
+            (settings_held self.old) first
+            (and_call calls (map entry_of entries.items) (answer_told result)) (kept_by self.new) }
         ensures loader { loader_of self.new ≡ loader_of self.old }
         ensures resolver { resolver_of self.new ≡ resolver_of self.old }
         ensures config { config_of self.new ≡ config_of self.old }
@@ -140,7 +188,7 @@ fn loaded<L: Load + Drop, R: Resolve + Drop>(
     library: &mut Library<L, R>,
     alloc: Global,
     entries: &[(String, FileName)],
-    config: &Config,
+    config: &OrderedConfig,
     asking: Asking,
 ) -> Result<(LoadList, Vec<ModuleId>), Error>
     requires { 0 < length entries.now }
@@ -176,11 +224,11 @@ fn refuse_doubled_entry(alloc: Global, entries: &[(String, FileName)]) -> Result
     ensures doubled { IfErr result (λ refusal.
         IfSome (fault_of refusal) (IsFaultOfList (map entry_of entries.now))) }
 {
-    let mut names = IndexSet::new(alloc);
-    let mut files = IndexSet::new(alloc);
+    let mut names = TextSet::new(alloc);
+    let mut files = Marked::new(alloc);
     for (name, file) in entries {
         let is_new_name = names.insert(name.as_str())?;
-        let is_new_file = files.insert(file)?;
+        let is_new_file = note_file(&mut files, file)?;
         if !(is_new_name && is_new_file) {
             return Err(doubled_entry(name, file)?);
         }
@@ -234,7 +282,7 @@ fn numbered<L: Load + Drop, R: Resolve + Drop>(
 fn finished_bundles(
     alloc: Global,
     merged: Vec<Bundle>,
-    config: &Config,
+    config: &OrderedConfig,
 ) -> Result<Vec<Bundle>, AllocError>
     ensures { IfOk result (λ bundles.
         AllZip (IsFinishedBundle config.now) merged.items bundles.items) }
@@ -247,11 +295,15 @@ fn finished_bundles(
 }
 
 // A bundle, finished.
-fn finished_bundle(alloc: Global, merged: Bundle, config: &Config) -> Result<Bundle, AllocError>
+fn finished_bundle(
+    alloc: Global,
+    merged: Bundle,
+    config: &OrderedConfig,
+) -> Result<Bundle, AllocError>
     ensures { IfOk result (IsFinishedBundle config.now merged) }
 {
     let Bundle { kind, id, module } = merged;
-    let module = finished(alloc, module, config)?;
+    let module = finished(alloc, module, &config.base)?;
     Ok(Bundle { kind, id, module })
 }
 
@@ -261,7 +313,7 @@ fn merged_bundles(
     alloc: Global,
     kept: &Keeping<ModuleData>,
     list: &LoadList,
-    config: &Config,
+    config: &OrderedConfig,
     hook: &dyn Hook,
     entries: Vec<(String, FileName)>,
     ids: Vec<ModuleId>,
@@ -288,7 +340,7 @@ fn merged_bundles(
 fn bundles_of<'x>(
     alloc: Global,
     program: &ReadFiles<'x>,
-    config: &Config,
+    config: &OrderedConfig,
     hook: &dyn Hook,
     entries: Vec<(String, FileName)>,
     ids: Vec<ModuleId>,

@@ -1,6 +1,7 @@
 //! What a bundler keeps from one call to the next.
 
-ghost use Rattle.std.specs.Prelude.{◌≡◌, ◌+◌, ◌<◌, ◌≤◌, ◌++◌, ◌∷◌, [], length, map, position, Some, None, IfOk, IfErr, IfSome, OnOk, OnErr, OnSome, option_copied, Contains};
+ghost use Rattle.std.specs.Prelude.{◌≡◌, ◌+◌, ◌<◌, ◌≤◌, ◌++◌, ◌∷◌, [], length, map, not, position, Some, None, IfOk, IfErr, IfSome, IsTrue, OnOk, OnErr, OnSome, option_copied, Contains};
+ghost use Rattle.std.specs.List.{list_any};
 ghost use Rattle.std.specs.Map.{lookup};
 ghost use Rattle.std.specs.Option.{option_map};
 ghost use Rattle.bundle_tree_names.specs.FileName.{name_of, name_eq};
@@ -228,9 +229,38 @@ fn add_file(files: &mut Marked<bool>, file: &FileName) -> Result<usize, Error>
             file: file.clone()?,
         });
     }
+    put_file(files, file)?;
+    Ok(number)
+}
+
+// Puts a file that is not among these last.
+fn put_file(files: &mut Marked<bool>, file: &FileName) -> Result<(), AllocError>
+    requires { position (name_eq (name_of file.now)) (map file_named files.old) ≡ None }
+    ensures added { OnOk result
+        (map file_named files.new ≡ map file_named files.old ++ name_of file.now ∷ []) }
+    ensures longer { OnOk result (length files.new ≡ length files.old + 1) }
+    ensures unchanged { OnErr result (files.new ≡ files.old) }
+{
     match file {
         FileName::Real(path) => files.add(true, path)?,
         FileName::Custom(name) => files.add(false, name)?,
     }
-    Ok(number)
+    Ok(())
+}
+
+/// Puts a file last, unless it is among these. True where it was not.
+pub(crate) fn note_file(files: &mut Marked<bool>, file: &FileName) -> Result<bool, AllocError>
+    ensures added { IfOk result (λ is_new.
+        is_new ≡ not (list_any (λ its. name_eq (name_of file.now) (file_named its)) files.old)) }
+    ensures put { IfOk result (λ is_new.
+        IsTrue is_new →
+        map file_named files.new ≡ map file_named files.old ++ name_of file.now ∷ []) }
+{
+    match number_in(&*files, file) {
+        Some(_number) => Ok(false),
+        None => {
+            put_file(files, file)?;
+            Ok(true)
+        }
+    }
 }

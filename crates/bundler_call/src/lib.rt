@@ -17,4 +17,5 @@ mod texts;
 
 pub use bundle::{Bundle, BundleKind};
 pub use bundler::Bundler;
+pub use bundler_entry::OrderedConfig;
 pub use kept::{Kept, Request};

@@ -19,9 +19,9 @@ use crate::{Kept, Request};
 use bundle_tree::load::{Load, LoadError, ModuleData};
 use bundle_tree::resolve::{Resolve, ResolveError};
 use bundle_tree_names::ModuleId;
-use bundle_tree_names::config::Config;
 use bundle_tree_names::error::Error;
 use bundle_tree_names::file_name::FileName;
+use bundler_entry::OrderedConfig;
 use std::alloc::{AllocError, Global};
 
 /// How a loader is asked for the module of a file.
@@ -113,7 +113,7 @@ impl<L: Load + Drop, R: Resolve + Drop> Library<L, R> {
         &mut self,
         alloc: Global,
         file: &FileName,
-        config: &Config,
+        config: &OrderedConfig,
         asking: Asking,
     ) -> Result<(), Error>
         requires { IsFileMet (kept_of self.old.kept) (name_of file.now) }
@@ -137,7 +137,7 @@ impl<L: Load + Drop, R: Resolve + Drop> Library<L, R> {
             return Ok(());
         }
         let name = file.clone()?;
-        if self.kept.count() >= config.max_modules as usize {
+        if self.kept.count() >= config.base.max_modules as usize {
             return Err(Error::TooManyModules { file: name });
         }
         reserve_tree(&mut self.kept)?;

@@ -9,6 +9,7 @@ ghost use Rattle.bundle_rules.specs.Faults.{IsFaultless, IsFirstTreeFault, fault
 ghost use Rattle.bundle_rules.specs.Judging.{Asks, LoadsAll, requests_in};
 ghost use Rattle.bundle_rules.specs.Kept.{Kept, kept_file, kept_module, number_in};
 ghost use Rattle.bundle_rules.specs.Program.{Loaded};
+ghost use Rattle.bundle_link.specs.Refusals.{HasExternals};
 ghost use Rattle.bundler_call.specs.KeptFiles.{asked_of};
 ghost use Rattle.bundler_call.specs.Judged.{EndsJudging, LeadsOn, parties_asked};
 ghost use Rattle.bundler_call.specs.Kept.{kept_of, settings_of, AreRequested, IsKept, IsFileMet, IsRequested, LoadsAlike};
@@ -18,13 +19,14 @@ ghost use Rattle.bundler_call.specs.Loading.{files_on, ids_on, AllLead, AreAsked
 use crate::Request;
 use crate::library::{Asking, Library};
 use crate::listed::NumberedFiles;
-use bundle_link::tables::requests_of;
+use bundle_link::tables::{externals_of, requests_by};
+use bundle_scope_denote::texts::TextSet;
 use bundle_tree::load::Load;
 use bundle_tree::resolve::Resolve;
 use bundle_tree_names::ModuleId;
-use bundle_tree_names::config::Config;
 use bundle_tree_names::error::Error;
 use bundle_tree_names::file_name::FileName;
+use bundler_entry::OrderedConfig;
 use std::alloc::{AllocError, Global};
 
 /// Files with their numbers, in the order in which they were met, and for each that was worked on its requests, in their
@@ -98,7 +100,7 @@ pub(crate) fn load_all<L: Load + Drop, R: Resolve + Drop>(
     library: &mut Library<L, R>,
     alloc: Global,
     list: LoadList,
-    config: &Config,
+    config: &OrderedConfig,
     asking: Asking,
 ) -> Result<LoadList, Error>
     requires met { AreMet (kept_of library.old.kept) (files_on list) }
@@ -125,13 +127,14 @@ pub(crate) fn load_all<L: Load + Drop, R: Resolve + Drop>(
         (settings_of config.now) (files_on list) 0 (kept_of library.old.kept) outcome
         (kept_of library.new.kept)) }
 {
+    let external = externals_of(alloc, &config.base)?;
     let mut list = list;
     // A list of files is shorter than that.
     for place in 0..usize::MAX {
         let Some(file) = list.file_at(place)? else {
             return Ok(list);
         };
-        work_on(library, alloc, &mut list, &file, config, asking)?;
+        work_on(library, alloc, &mut list, &file, config, &external, asking)?;
     }
     let _count = list.files.len();
     Ok(list)
@@ -144,9 +147,11 @@ fn work_on<L: Load + Drop, R: Resolve + Drop>(
     alloc: Global,
     list: &mut LoadList,
     file: &FileName,
-    config: &Config,
+    config: &OrderedConfig,
+    external: &TextSet<&str>,
     asking: Asking,
 ) -> Result<(), Error>
+    requires external { HasExternals external.now config.now.base }
     requires met { AreMet (kept_of library.old.kept) (files_on list.old) }
     requires numbered { AreFilesNumbered (kept_of library.old.kept) list.old }
     requires listed { IsFileMet (kept_of library.old.kept) (name_of file.now) }
@@ -179,7 +184,7 @@ fn work_on<L: Load + Drop, R: Resolve + Drop>(
         (kept_of library.new.kept) }
 {
     library.load(alloc, file, config, asking)?;
-    let specifiers = kept_requests(library, alloc, file, config)?;
+    let specifiers = kept_requests(library, alloc, file, config, external)?;
     let deps = ask_each(library, alloc, list, file, specifiers)?;
     list.add_deps(deps)?;
     Ok(())
@@ -297,9 +302,11 @@ fn kept_requests<L: Load + Drop, R: Resolve + Drop>(
     library: &Library<L, R>,
     alloc: Global,
     file: &FileName,
-    config: &Config,
+    config: &OrderedConfig,
+    external: &TextSet<&str>,
 ) -> Result<Vec<String>, Error>
-    requires { IsKept (kept_of library.now.kept) (name_of file.now) }
+    requires external { HasExternals external.now config.now.base }
+    requires kept { IsKept (kept_of library.now.kept) (name_of file.now) }
     ensures faulty { IfErr result (λ refusal.
         (loaded : Loaded) →
         kept_module (kept_of library.now.kept) (name_of file.now) ≡ Some loaded →
@@ -311,5 +318,5 @@ fn kept_requests<L: Load + Drop, R: Resolve + Drop>(
         × (map string_bytes texts.items ≡ requests_in (settings_of config.now) loaded.items)) }
 {
     let loaded = library.module(file).unwrap();
-    requests_of(alloc, file, &loaded.module, config)
+    requests_by(alloc, file, &loaded.module, &config.base, external)
 }

@@ -4,6 +4,7 @@ ghost use Rattle.std.specs.Prelude.{◌≡◌, ℕ, Some, IfOk};
 ghost use Rattle.bundle_tree_names.specs.FileName.{name_of};
 ghost use Rattle.bundle_rules.specs.Kept as rules;
 ghost use Rattle.bundle_rules.specs.Kept.{number_in};
+ghost use Rattle.bundle_link.specs.Refusals.{HasExternals};
 ghost use Rattle.bundler_entry.specs.Source.{AreSourcesOf, IsSourceOf};
 ghost use Rattle.bundler_call.specs.Kept.{kept_of, settings_of};
 ghost use Rattle.bundler_call.specs.Linking.{IsListLoaded, IsReadListOf};
@@ -12,10 +13,11 @@ ghost use Rattle.bundler_call.specs.Loading.{files_on, ids_on, AreFilesNumbered,
 use crate::Kept;
 use crate::library::module_in;
 use crate::load::LoadList;
+use bundle_link::tables::externals_of;
+use bundle_scope_denote::texts::TextSet;
 use bundle_tree::load::ModuleData;
-use bundle_tree_names::config::Config;
 use bundle_tree_names::file_name::FileName;
-use bundler_entry::{ReadFile, ReadFiles, program_of, source_of};
+use bundler_entry::{OrderedConfig, ReadFile, ReadFiles, program_of, source_of};
 use std::alloc::{AllocError, Global};
 
 /// Reads the files of a load list, which are kept and not at fault by themselves.
@@ -23,14 +25,15 @@ pub fn program_on<'x>(
     kept: &'x Kept<ModuleData>,
     alloc: Global,
     list: &'x LoadList,
-    config: &Config,
+    config: &OrderedConfig,
 ) -> Result<ReadFiles<'x>, AllocError>
     requires { AreFilesSound (kept_of kept.now) (files_on list.now) }
     ensures { IfOk result (λ program.
         IsListLoaded (settings_of config.now) (kept_of kept.entry.now) list.entry.now →
         IsReadListOf (settings_of config.now) (kept_of kept.entry.now) list.entry.now program) }
 {
-    let sources = sources_on(kept, alloc, list, config)?;
+    let external = externals_of(alloc, &config.base)?;
+    let sources = sources_on(kept, alloc, list, config, &external)?;
     program_of(alloc, list.files.as_slice(), list.deps.as_slice(), sources)
 }
 
@@ -39,9 +42,11 @@ fn sources_on<'x>(
     kept: &'x Kept<ModuleData>,
     alloc: Global,
     list: &'x LoadList,
-    config: &Config,
+    config: &OrderedConfig,
+    external: &TextSet<&str>,
 ) -> Result<Vec<ReadFile<'x>>, AllocError>
-    requires { AreFilesSound (kept_of kept.now) (files_on list.now) }
+    requires external { HasExternals external.now config.now.base }
+    requires sound { AreFilesSound (kept_of kept.now) (files_on list.now) }
     ensures { IfOk result (λ sources.
         (entry : ℕ) →
         AreFilesNumbered (kept_of kept.entry.now) list.entry.now →
@@ -51,7 +56,7 @@ fn sources_on<'x>(
 {
     let mut sources = Vec::new(alloc);
     for (file, _) in list.files.as_slice() {
-        sources.push(kept_source(kept, alloc, file, config)?)?;
+        sources.push(kept_source(kept, alloc, file, config, external)?)?;
     }
     Ok(sources)
 }
@@ -61,9 +66,11 @@ fn kept_source<'x>(
     kept: &'x Kept<ModuleData>,
     alloc: Global,
     file: &'x FileName,
-    config: &Config,
+    config: &OrderedConfig,
+    external: &TextSet<&str>,
 ) -> Result<ReadFile<'x>, AllocError>
-    requires { IsFileSound (kept_of kept.now) (name_of file.now) }
+    requires external { HasExternals external.now config.now.base }
+    requires sound { IsFileSound (kept_of kept.now) (name_of file.now) }
     ensures { IfOk result (λ source.
         (entry m : ℕ) →
         number_in (kept_of kept.entry.now) (name_of file.entry.now) ≡ Some m →
@@ -71,5 +78,5 @@ fn kept_source<'x>(
         m source) }
 {
     let loaded = module_in(kept, file).unwrap();
-    source_of(alloc, loaded, config)
+    source_of(alloc, loaded, &config.base, external)
 }

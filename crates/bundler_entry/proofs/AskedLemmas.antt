@@ -251,7 +251,7 @@ module _ (p : Program) (entry : ℕ) (call : EntryCall) (w : IsCallOf p entry ca
     pub answer_of : (k m : ℕ) → slice_get list k ≡ Some m → (file given : Name) →
         IsAskedModule p m file given → (last iife : Bool)
         (properties : List (KeyValueProp Expr)) → last ≡ (k == length places - 1) →
-        iife ≡ is_one_call call.config.now.module → may_give given last properties →
+        iife ≡ is_one_call call.config.now.base.module → may_give given last properties →
         IsRightAnswer iife (flat_map (key_value_prop_items 0) properties) →
         IsHookAnswer may_give p m (Some properties)
     answer_of k m at file given its last iife properties here called may right = (
@@ -267,7 +267,7 @@ module _ (p : Program) (entry : ℕ) (call : EntryCall) (w : IsCallOf p entry ca
     )
 
   module _ (may_give : Name → Bool → List (KeyValueProp Expr) → Type 0) (may_fail : Name → Bool → Type 0) where
-    pub refused_for : (k m : ℕ) → slice_get list k ≡ Some m → (file given : Name) → IsAskedModule p m file given → (last iife : Bool) (fault : Option Fault) → last ≡ (k == length places - 1) → iife ≡ is_one_call call.config.now.module → IfSome fault (IsAskedFault may_give may_fail given last iife file) → IfSome fault (IsRefusedFor may_give may_fail p m)
+    pub refused_for : (k m : ℕ) → slice_get list k ≡ Some m → (file given : Name) → IsAskedModule p m file given → (last iife : Bool) (fault : Option Fault) → last ≡ (k == length places - 1) → iife ≡ is_one_call call.config.now.base.module → IfSome fault (IsAskedFault may_give may_fail given last iife file) → IfSome fault (IsRefusedFor may_give may_fail p m)
     refused_for k m at file given its last iife fault here called wrong = if_some fault
         (λ f it. record {
           file = file;

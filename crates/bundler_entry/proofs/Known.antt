@@ -6,7 +6,7 @@ use Rattle.std.specs.Option.{option_and_then}
 use Rattle.std.proofs.lemmas.Option.{same_Some, slice_get-map}
 use Rattle.bundle_tree_names.specs.declared.file_name.FileName.{FileName}
 use Rattle.bundle_order_graph.specs.Modules.{Modules}
-use Rattle.bundle_order_sort.specs.Plan.{IsPlanOf}
+use Rattle.bundle_order_sort.specs.Plan.{IsPlanAsked}
 use Rattle.bundle_rules.specs.Entries.{has_import_meta}
 use Rattle.bundle_rules.specs.Statements.{own_statements}
 use Rattle.bundle_rules.specs.Program.{Program, tree_of, IsReached}
@@ -118,7 +118,7 @@ module _ (p : Program) (entry : ℕ) (call : EntryCall) (w : IsCallOf p entry ca
   are-told = record { meta_told = λ k below. refl; counted = λ k below. refl }
 
   -- the plan is that of the list
-  pub is-planned : IsPlanOf graph p.entry ids linked.plan
+  pub is-planned : IsPlanAsked p.settings.in_standard_order graph p.entry ids linked.plan
   is-planned = l.planned
 
   -- what is made of the modules by their places, as they are linked and planned, is merged right

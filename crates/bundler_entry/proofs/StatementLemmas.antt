@@ -36,7 +36,7 @@ use Rattle.bundle_tree_ast.specs.declared.module.ModuleItem.{ModuleItem}
 use Rattle.bundle_tree_ast.specs.declared.stmt.Stmt.{Stmt}
 use Rattle.bundle_rules.specs.Declarations.{Reading, ByContext, BySymbol}
 use Rattle.bundle_rules.specs.Callable.{is_module_head, ExportedName, word, text, Specifier, name_items, specifier_items, export_items, IsBack, nothing, exports, CanBeCalled, StatesNoExports}
-use Rattle.bundle_order_sort.specs.Plan.{IsPlanOf}
+use Rattle.bundle_order_sort.specs.Plan.{IsPlanAsked}
 use Rattle.bundle_order_sort.specs.declared.plan.Plan.{Plan}
 use Rattle.bundle_rules.specs.Cleared.{cleared, tidied}
 use Rattle.bundle_rules.specs.Doubled.{first_doubled}
@@ -610,7 +610,8 @@ module _ (p : Program) (hooks : Hooks) (named : List Item)
 pub made-bundle : (p q : Program) (ids : List ℕ) (g : Modules) → IsByPlaces p q ids g →
     AreKnown p q ids → AreMoved p q ids → (linking : Linking) (meta : ℕ → Bool)
     (count : ℕ → ℕ) → AreTablesLinked q (length ids) linking meta count → (plan : Plan) →
-    IsPlanOf g p.entry ids plan → (hooks : Hooks) (context : BundleContexts)
+    IsPlanAsked p.settings.in_standard_order g p.entry ids plan → (hooks : Hooks)
+    (context : BundleContexts)
     (answers : ℕ → Option Answer_bundle) → AreFresh answers → (orders : List (List ℕ))
     (items : List (List Item)) →
     AreMade q hooks (numbers_from zero (length ids)) context answers
@@ -766,6 +767,6 @@ module _ (p : Program) (entry : ℕ) (call : EntryCall) (w : IsCallOf p entry ca
       (λ k properties is. (held k properties (fresh-told given k properties is)).1)
       (λ k ctxt notes properties is. absurd (are-fresh given k ctxt notes properties is))
       (decided_in q linked) merged.orders merged.items merged.are_made)
-      merged.apart merged.tops call.config.now w.renames w.iife (module_items 0 made)
-      (subst (λ before. IsFinished call.config.now before (module_items 0 made)) merged.is
+      merged.apart merged.tops call.config.now.base w.renames w.iife (module_items 0 made)
+      (subst (λ before. IsFinished call.config.now.base before (module_items 0 made)) merged.is
       its.finished)

@@ -21,7 +21,7 @@ use Rattle.bundle_link.specs.Reached.{IsReachedOf}
 use Rattle.bundle_link.specs.declared.judging.DoubledNames.{DoubledNames}
 use Rattle.bundle_link.specs.declared.judging.ModuleFault.{ModuleFault}
 use Rattle.bundle_link.specs.declared.reached.Reached.{Reached}
-use Rattle.bundle_order_sort.specs.Plan.{IsPlanOf}
+use Rattle.bundle_order_sort.specs.Plan.{IsPlanAsked}
 use Rattle.bundler_entry.specs.Finished.{is_renaming}
 use Rattle.bundler_entry.specs.Source.{IsReadProgram, IsSourceOf}
 use Rattle.bundler_entry.specs.Unlinked.{error_of}
@@ -38,9 +38,10 @@ ids_of call = call.program.now.files.ids.keys
 -- have contexts of their own, and there are as many as the program knows
 pub record IsCallOf (p : Program) (entry : ℕ) (call : EntryCall) : Type 0 where
   pub program : IsReadProgram p call.program.now
-  pub links : Links call.config.now p.settings
-  pub iife : p.settings.iife ≡ is_one_call call.config.now.module
-  pub renames : p.settings.renames ≡ is_renaming call.config.now
+  pub links : Links call.config.now.base p.settings
+  pub iife : p.settings.iife ≡ is_one_call call.config.now.base.module
+  pub renames : p.settings.renames ≡ is_renaming call.config.now.base
+  pub in_standard_order : p.settings.in_standard_order ≡ call.config.now.in_standard_order
   pub begins : p.entry ≡ entry
   pub there : Contains (ids_of call) entry
   pub named : file_of p entry ≡ Some (name_of call.entry.now)
@@ -79,11 +80,12 @@ pub record AreEntryLinks (p : Program) (call : EntryCall) (reached : Reached)
   pub linked : IsLinkingOf places linking
   pub handed : HandsOver places (numbers_below (length reached.list.items)) linking
 
--- the modules that the entry reaches are linked, and the blocks are those of the modules
+-- the modules that the entry reaches are linked, and the blocks are those that the program asks for
 pub record IsLinkedEntry (p : Program) (call : EntryCall) (linked : LinkedEntry) : Type 0 where
   pub reached : IsReachedIn p call linked.reached
   pub links : AreEntryLinks p call linked.reached linked.linking
-  pub planned : IsPlanOf call.program.now.files.graph p.entry linked.reached.list.items linked.plan
+  pub planned : IsPlanAsked p.settings.in_standard_order call.program.now.files.graph p.entry
+      linked.reached.list.items linked.plan
 
 -- of module k there is what was read
 pub record HasPlace (sources : List ReadFile) (reached : Reached) (k : ℕ) : Type 0 where

@@ -53,7 +53,7 @@ pub record IsMadeOf (q : Program) (call : EntryCall) (linked : LinkedEntry)
     (answers : ℕ → Option (List Item)) (made : Module) : Type 0 where
   pub merged : Module
   pub is_merged : IsMergedIn q linked answers merged
-  pub finished : IsFinished call.config.now (module_items 0 merged) (module_items 0 made)
+  pub finished : IsFinished call.config.now.base (module_items 0 merged) (module_items 0 made)
 
 -- the modules of an entry make none: a growth was refused; or contexts are used up, which is told of
 -- the file of the module whose names get them or, of the linker's own names, of the entry's

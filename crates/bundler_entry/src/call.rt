@@ -11,11 +11,20 @@ use bundle_tree_names::ModuleId;
 use bundle_tree_names::config::Config;
 use bundle_tree_names::file_name::FileName;
 
+/// The settings of a bundle, and the order of modules that is asked for beside them.
+#[derive(Drop)]
+pub struct OrderedConfig {
+    pub base: Config,
+    /// Whether modules that reach each other too stand in the order in which they are evaluated (ECMA-262,
+    /// 16.2.1.5.2), each by itself.
+    pub in_standard_order: bool,
+}
+
 /// What the bundle of an entry is made of: the files that were read, the settings, and the entry's file.
 #[derive(Clone, Copy)]
 pub struct EntryCall<'p, 'x> {
     pub program: &'p ReadFiles<'x>,
-    pub config: &'p Config,
+    pub config: &'p OrderedConfig,
     pub entry: &'p FileName,
 }
 

@@ -147,7 +147,7 @@ fn ask_at<'p, 'x>(
     match asked_at(call, reached, which) {
         Some((file, given)) => {
             let is_entry = which == reached.places.len().saturating_sub(1);
-            let is_iife = setting_of(call.config).iife;
+            let is_iife = setting_of(&call.config.base).iife;
             let properties = ask(alloc, hook, file, given, is_entry, is_iife)?;
             Ok(Some(properties))
         }

@@ -12,7 +12,7 @@ mod meta;
 mod source;
 mod unlinked;
 
-pub use call::EntryCall;
+pub use call::{EntryCall, OrderedConfig};
 pub use entry::{MetaAnswer, ask_all, module_of};
 pub use finish::finished;
 pub use linked::{LinkedEntry, linked_entry};

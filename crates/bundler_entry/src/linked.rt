@@ -15,13 +15,13 @@ use crate::unlinked::EntryError;
 use bundle_link::link::setting_of;
 use bundle_link::{DoubledNames, ModuleFault, Reached, judged, reached_from};
 use bundle_link_targets::{LinkModule, Linking};
-use bundle_order_sort::{Plan, plan_of};
+use bundle_order_sort::{Plan, plan_asked};
 use bundle_tree_names::ModuleId;
 use bundle_tree_names::file_name::FileName;
 use std::alloc::{AllocError, Global};
 
-/// The modules that an entry reaches, what their names are linked to, and the blocks of those that reach each other,
-/// whose places are those of the modules on the list.
+/// The modules that an entry reaches, what their names are linked to, and the blocks in which they stand, whose places
+/// are those of the modules on the list.
 pub struct LinkedEntry<'x> {
     pub(crate) reached: Reached,
     pub(crate) linking: Linking<'x>,
@@ -55,7 +55,8 @@ pub fn linked_entry<'p, 'x>(
     let files = &call.program.files;
     let reached = reached_from(alloc, files, entry)?;
     let linking = linking_of(alloc, call, &reached)?;
-    let plan = plan_of(alloc, &files.graph, entry, &reached.list)?;
+    let in_standard_order = call.config.in_standard_order;
+    let plan = plan_asked(alloc, &files.graph, entry, &reached.list, in_standard_order)?;
     Ok(LinkedEntry {
         reached,
         linking,
@@ -83,7 +84,7 @@ fn linking_of<'p, 'x>(
     let sources = call.program.sources.as_slice();
     let modules = modules_of(alloc, sources, reached)?;
     let notes = notes_of(alloc, sources, reached)?;
-    let found = judged(alloc, &modules, &notes, setting_of(call.config))?;
+    let found = judged(alloc, &modules, &notes, setting_of(&call.config.base))?;
     match found {
         Ok(linking) => Ok(linking),
         Err(told) => Err(refusal_of(alloc, call, reached, told)?),

@@ -14,12 +14,13 @@ ghost use Rattle.bundle_rules.specs.Faults.{IsFaultless};
 ghost use Rattle.bundle_rules.specs.Program as the_program;
 ghost use Rattle.bundle_rules.specs.Program.{module_of};
 ghost use Rattle.bundle_link.specs.Read.{AreTablesOf};
-ghost use Rattle.bundle_link.specs.Refusals.{Links};
+ghost use Rattle.bundle_link.specs.Refusals.{HasExternals, Links};
 ghost use Rattle.bundle_link.specs.Files.{AreFilesOf, numbers_of};
 ghost use Rattle.bundler_entry.specs.Source.{AreSourcesOf, IsReadProgram, IsSourceOf, kept_as};
 
 use bundle_link::{DoubledNames, Files};
 use bundle_link_tables::{Tables, tables_of};
+use bundle_scope_denote::texts::TextSet;
 use bundle_scope_denote::{Denotations, Doubled, ModuleKind, first_doubled, names_and_doubled};
 use bundle_syntax::Piece;
 use bundle_tree::load::ModuleData;
@@ -51,13 +52,16 @@ pub struct ReadFiles<'x> {
     pub count: usize,
 }
 
-/// Reads a module that has no fault of its own. Refused only where memory runs out.
+/// Reads a module that has no fault of its own, where these are the texts that are external. Refused only where memory
+/// runs out.
 pub fn source_of<'x>(
     alloc: Global,
     loaded: &'x ModuleData,
     config: &Config,
+    external: &TextSet<&str>,
 ) -> Result<ReadFile<'x>, AllocError>
-    requires { (file : Name) × IsFaultless file (module_items 0 loaded.now.module) }
+    requires faultless { (file : Name) × IsFaultless file (module_items 0 loaded.now.module) }
+    requires external { HasExternals external.now config.now }
     ensures { IfOk result (λ source.
         (p : the_program.Program) (m : ℕ) →
         Links config.now p.settings →
@@ -66,7 +70,7 @@ pub fn source_of<'x>(
 {
     let pieces = pieces_of_module(alloc, &loaded.module)?;
     let named = names_and_doubled(alloc, pieces.as_slice(), ModuleKind::Es)?;
-    let tables = tables_in(alloc, pieces.as_slice(), &named.names, config)?;
+    let tables = tables_in(alloc, pieces.as_slice(), &named.names, config, external)?;
     let is_asked = may_be_common_js(config, &tables);
     let common_js = doubled_in_function(alloc, pieces.as_slice(), is_asked)?;
     Ok(ReadFile {
@@ -109,15 +113,16 @@ fn tables_in<'x>(
     pieces: &[Piece<'x>],
     names: &Denotations<'x>,
     config: &Config,
+    external: &TextSet<&str>,
 ) -> Result<Tables<'x>, AllocError>
     requires table { IsDenotationTable BySymbol Es (map item_of pieces.now) names.now }
     requires faultless { (file : Name) × IsFaultless file (map item_of pieces.now) }
+    requires external { HasExternals external.now config.now }
     ensures given { IfOk result (λ tables.
         (file : Name) → AreTablesOf config.now file (map item_of pieces.now) tables) }
     ensures meta { IfOk result (λ tables.
         tables.has_import_meta ≡ has_import_meta (map item_of pieces.now)) }
 {
-    let external = config.external_modules.as_slice();
     match tables_of(alloc, pieces, names, config.require, external)? {
         Ok(tables) => Ok(tables),
         Err(_) => unreachable!(),

@@ -265,13 +265,13 @@ block-moved : {p : Program} {reading : Reading} {is_async : Bool} {stmts after i
     IsBlockLaidOut p AsCall (call_with is_async stmts its) reading new members plan
 block-moved {p} twins like (lone {m} alone choice) =
     lone alone (chosen-same (lone-other p m) choice)
-block-moved {p} {reading} {is_async} {stmts} {after} {its} {old} {new} twins like (cycle {members} numbered items order requests choice stand good there) =
+block-moved {p} {reading} {is_async} {stmts} {after} {its} {old} {new} twins like (cycle {members} numbered items order by_needs requests choice stand good there) =
     let others = chosen-other (cycle-other p members) choice in
     let same : group_of reading new.top (call_with is_async stmts its) (map moved_item items) (map owner_of numbered) ≡ group_of reading old.top (module_with stmts after) items (map owner_of numbered) =
     ap (λ t. group_of reading t (call_with is_async stmts its) (map moved_item items) (map owner_of numbered)) like.new_top
     ∙ group-moved twins (all-segments like numbered others items stand) (map owner_of numbered)
     ∙ sym (ap (λ t. group_of reading t (module_with stmts after) items (map owner_of numbered)) like.top) in
-    cycle numbered (map moved_item items) order requests (chosen-same (cycle-other p members) choice) (all-stand like numbered others items stand) (subst (λ g. IsGoodOrder g order) (sym same) good) there
+    cycle numbered (map moved_item items) order by_needs requests (chosen-same (cycle-other p members) choice) (all-stand like numbered others items stand) (subst (λ g. IsGoodOrder g order) (sym same) good) there
 
 pub blocks-moved : {p : Program} {reading : Reading} {is_async : Bool} {stmts after its : List Item}
     {old new : Pairing} →

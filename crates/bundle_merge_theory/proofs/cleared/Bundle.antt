@@ -265,13 +265,13 @@ module _ (p : Program) (f g : ModulesByNumber) (w : AreSameCleared f g) where
         IsBlockLaidOut one form tree reading pairing members plan →
         IsBlockLaidOut two form tree reading pairing members plan
     block-on {plan = plan} (lone {m = m} apart its) =
-        lone (λ requests. apart (requests-on p g f (turned w) m m requests))
+        lone (λ by_needs requests. apart by_needs (requests-on p g f (turned w) m m requests))
         (subst
         (λ (causes : ℕ → List Cause). Chosen (IsDue two form) (causes m ++ HoldsNamespace m ∷ [])
         plan)
         same-causes (chosen-on (due-both form) its))
-    block-on {members = members} (cycle numbered items order asks its stand good placed) =
-        cycle numbered items order (λ m is. requests-on p f g w m m (asks m is))
+    block-on {members = members} (cycle numbered items order by_needs asks its stand good placed) =
+        cycle numbered items order by_needs (λ m is. requests-on p f g w m m (asks m is))
         (subst
         (λ (causes : ℕ → List Cause). Chosen (IsDue two form)
         (flat_map causes members ++ map HoldsNamespace members) numbered)
@@ -292,8 +292,8 @@ module _ (p : Program) (f g : ModulesByNumber) (w : AreSameCleared f g) where
       are_blocks =
           subst (λ (shares : ℕ → ℕ → Type 0). BlocksOf shares its.list its.list its.blocks)
           (shares-on p f g w) its.are_blocks;
-      follows = λ i l m n block other at to inside there requests.
-          its.follows i l m n block other at to inside there
+      follows = λ by_needs i l m n block other at to inside there requests.
+          its.follows by_needs i l m n block other at to inside there
           (requests-on p g f (turned w) m n requests);
       front = its.front;
       middle = its.middle;

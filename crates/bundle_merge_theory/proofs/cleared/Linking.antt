@@ -1,5 +1,5 @@
 -- Programs whose modules are the same once their trees are cleared link alike.
-use Rattle.std.proofs.Common.{◌≡◌, inl, inr, ℕ, Bool, false, List, [], ◌∷◌, Option, Some, None, Contains, sym, ap, subst}
+use Rattle.std.proofs.Common.{◌≡◌, inl, inr, ℕ, Bool, true, false, List, [], ◌∷◌, Option, Some, None, Contains, sym, ap, subst}
 use Rattle.std.specs.Prelude.{IsTrue, codes, filter_map}
 use Rattle.std.specs.List.{list_any}
 use Rattle.bundle_syntax.specs.Item.{Item}
@@ -210,3 +210,4 @@ module _ (p : Program) (f g : ModulesByNumber) (w : AreSameCleared f g) where
   shares-on =
       λ i m n. Reaches (λ x y. Contains (same-requested p f g w i x) y) m n
       × Reaches (λ x y. Contains (same-requested p f g w i x) y) n m
+      × (p.settings.in_standard_order ≡ true → m ≡ n)

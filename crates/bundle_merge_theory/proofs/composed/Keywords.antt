@@ -720,9 +720,9 @@ module _ (p : Program) (form : Form) (reading other : Reading) (tree after : Lis
         IsBlockLaidOut p form tree reading one members causes →
         IsBlockLaidOut p form after other two members causes
     block-stays (lone apart plan_is) = lone apart plan_is
-    block-stays (cycle numbered tops order asks numbers stand ordered plan_is) =
+    block-stays (cycle numbered tops order by_needs asks numbers stand ordered plan_is) =
         let more = others_of numbered tops stand in
-        cycle numbered more.others order asks numbers more.stand
+        cycle numbered more.others order by_needs asks numbers more.stand
         (good tops more.others more.at _ order ordered) plan_is
 
     blocks-stay : {blocks : List (List ℕ)} {causes : List Cause} →

@@ -29,7 +29,7 @@ use Rattle.bundle_rules.specs.Renamed.{HasNamesOnly, IsNamed}
 use Rattle.bundle_rules.specs.Renaming.{Numbering}
 use Rattle.bundle_rules.specs.Cleared.{tidied}
 use Rattle.bundle_rules.specs.Entries.{Settings, declared_requests}
-use Rattle.bundle_order_sort.specs.Plan.{IsPlanOf}
+use Rattle.bundle_order_sort.specs.Plan.{IsPlanAsked}
 use Rattle.bundle_order_sort.specs.declared.plan.Plan.{Plan}
 use Rattle.bundle_rules.specs.Faults.{ExternalUnderIife, external_under_iife}
 use Rattle.bundle_rules.specs.Kept.{local_context}
@@ -451,7 +451,8 @@ at-end (y ∷ xs) x = at-end xs x
 module _ (p q : Program) (ids : List ℕ) (g : Modules) (places : IsByPlaces p q ids g)
     (known : AreKnown p q ids) (its_moved : AreMoved p q ids) (linking : Linking)
     (meta : ℕ → Bool) (count : ℕ → ℕ) (linked : AreTablesLinked q (length ids) linking meta count)
-    (plan : Plan) (planned : IsPlanOf g p.entry ids plan) (hooks : Hooks) (context : BundleContexts)
+    (plan : Plan) (planned : IsPlanAsked p.settings.in_standard_order g p.entry ids plan)
+    (hooks : Hooks) (context : BundleContexts)
     (answers : ℕ → Option HookAnswer) where
   -- modules by their places
   abbrev places_of : List ℕ

@@ -1,7 +1,7 @@
 -- Groups that are alike have the same dependencies, needs, steps and good orders.
 -- Items that correspond give groups that are alike.
 -- The identifiers of an item among those of its tree.
-use Rattle.std.proofs.Common.{◌≡◌, ◌↔◌, ◌<◌, ℕ, Option, Some, List, [], ◌∷◌, slice_get, Contains, refl, sym, ap, ◌∙◌, subst, inl, inr, true, None, map, zero, suc, ◌+◌, ◌&&◌, ◌++◌, codes, length, drop, take, arith}
+use Rattle.std.proofs.Common.{◌≡◌, ◌↔◌, ◌<◌, ◌≤◌, ℕ, Option, Some, List, [], ◌∷◌, slice_get, Contains, refl, sym, ap, ◌∙◌, subst, inl, inr, true, None, map, zero, suc, ◌+◌, ◌&&◌, ◌++◌, codes, length, drop, take, arith}
 use Rattle.std.specs.List.{AllZip}
 use Rattle.std.specs.Option.{option_and_then, option_map}
 use Rattle.std.proofs.lemmas.Option.{same_Some, none-some, slice_get-map}
@@ -361,6 +361,13 @@ good-to g h alike order good =
             Path-mono {E = Depends g} {F = Depends h} (λ x y. (Depends-alike g h alike x y).0) p.0,
             Path-mono {E = Step g} {F = Step h} (λ x y. (Step-alike g h alike x y).0) p.1,
           );
+      as_numbered =
+          λ bound s t most settled a b before. good.as_numbered bound s t
+          (subst (λ count. bound ≤ count)
+          (sym (length_all_zip (AllZip IsSameButTop) g.items h.items alike.items)) most)
+          (λ x y c d path. settled x y c d
+          (Path-mono {E = Step g} {F = Step h} (λ u v. (Step-alike g h alike u v).0) path))
+          a b before;
     }
 
 -- an order is good of both or of none

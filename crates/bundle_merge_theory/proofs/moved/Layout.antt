@@ -406,19 +406,22 @@ module _ (p q : Program) (R : ℕ → ℕ → Type 0) (name back : ℕ → ℕ)
         IsBlockLaidOut q form tree reading two (map name members) (map to causes)
     laid-block {causes = causes} all (lone {m} apart its_plan) =
         let r : Has m = all m (here m []) in
-        lone (λ requests. apart (requests-back p q R name back its m m r r requests))
+        lone
+        (λ by_needs requests. apart (w.in_standard_order ∙ by_needs)
+        (requests-back p q R name back its m m r r requests))
         (chosen-due form (module_causes p m ++ HoldsNamespace m ∷ [])
         (module_causes q (name m) ++ HoldsNamespace (name m) ∷ []) causes
         (causes-join (module_causes p m) (HoldsNamespace m ∷ []) (module-all m r)
         (causes-cons (HoldsNamespace m) [] r (λ cause there. absurd (no_element there))))
         (map-append to (module_causes p m) (HoldsNamespace m ∷ [])
         ∙ ap (λ (xs : List Cause). xs ++ HoldsNamespace (name m) ∷ []) (module-by m r)) its_plan)
-    laid-block {members = members} {causes = causes} all (cycle numbered tops order asks numbers
-        stand good its_plan) =
+    laid-block {members = members} {causes = causes} all (cycle numbered tops order by_needs asks
+        numbers stand good its_plan) =
         let named : AllCauses numbered =
         λ cause there.
         (let both = Chosen-in numbers cause there in due-named p q R name back its both.1) in
-        cycle (map to numbered) tops order (asks-by members asks all)
+        cycle (map to numbered) tops order (sym w.in_standard_order ∙ by_needs)
+        (asks-by members asks all)
         (chosen-due form (block_causes p members) (block_causes q (map name members)) numbered
         (block-all members all) (block-by members all) numbers)
         (stand-by numbered tops stand)
@@ -451,7 +454,9 @@ module _ (p q : Program) (R : ℕ → ℕ → Type 0) (name back : ℕ → ℕ)
           blocks = map (map name) laid.blocks;
           are_blocks =
               blocks-by p q R name back its laid.list laid.blocks laid.is_list laid.are_blocks;
-          follows = follows-by p q R name back its laid.blocks named laid.follows;
+          follows =
+              λ by_needs. follows-by p q R name back its laid.blocks named
+              (laid.follows (w.in_standard_order ∙ by_needs));
           front = map to laid.front;
           middle = map to laid.middle;
           back = map to laid.back;

@@ -418,7 +418,11 @@ module _ (p q : Program) (R : ℕ → ℕ → Type 0) (name back : ℕ → ℕ)
   list-named list is = (both-listed list is).1
 
   shares-by : (m n : ℕ) → Has m → Has n → SharesBlock p m n → SharesBlock q (name m) (name n)
-  shares-by m n r s both = (reaches-by both.0 r, reaches-by both.1 s)
+  shares-by m n r s both = (
+    reaches-by both.0 r,
+    reaches-by both.1 s,
+    λ asked. ap name (both.2 (w.in_standard_order ∙ asked)),
+  )
 
 module _ (p q : Program) (R : ℕ → ℕ → Type 0) (name back : ℕ → ℕ)
     (its : AreRenamed p q R name back) where

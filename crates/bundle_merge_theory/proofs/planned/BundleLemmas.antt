@@ -180,7 +180,8 @@ module _ (p : Program) (form : Form) (reading : Reading) (tree : List Item) (pai
           (if t then arranged (block_plan d block.modules) order else block_plan d
           block.modules)
       by true e is =
-          cycle (block_plan d block.modules) items order (kind.sorted e) picked
+          let asked = kind.sorted e in
+          cycle (block_plan d block.modules) items order asked.0 asked.1 picked
           (block-stands pairing same before after (block_plan d block.modules) order is (has e))
           (ordered e)
           (arranged-reads (block_plan d block.modules) order (λ n c. (has e n).1 c))

@@ -454,7 +454,7 @@ module _ (p : Program) (form : Form) (tree : List Item) (reading : Reading) (pai
     block-laid-in (lone {m} {plan} apart picked) c d =
         let r = Chosen-in picked c d in
         (subst (λ (l : List Cause). Contains l c) (sym (alone m)) r.0, r.1)
-    block-laid-in (cycle {members} {plan} numbered items order asks picked stand good read) c d =
+    block-laid-in (cycle {members} {plan} numbered items order by_needs asks picked stand good read) c d =
         let r = read-back numbered order plan read c d in
         Chosen-in picked c (contains-get numbered r.0 c r.2)
 
@@ -462,7 +462,7 @@ module _ (p : Program) (form : Form) (tree : List Item) (reading : Reading) (pai
         Contains (block_causes p members) c → IsDue p form c → Contains plan c
     block-laid-has (lone {m} {plan} apart picked) c d due =
         Chosen-has picked c (subst (λ (l : List Cause). Contains l c) (alone m) d) due
-    block-laid-has (cycle {members} {plan} numbered items order asks picked stand good read) c d due =
+    block-laid-has (cycle {members} {plan} numbered items order by_needs asks picked stand good read) c d due =
         let at = get-contains numbered c (Chosen-has picked c d due) in
         let within = slice_get_within numbered at.0 c at.1 in
         let same = length-zip (StandsFor pairing) numbered items stand in
@@ -475,7 +475,7 @@ module _ (p : Program) (form : Form) (tree : List Item) (reading : Reading) (pai
         Once plan
     block-laid-once (lone {m} {plan} apart picked) once =
         Chosen-once picked (subst Once (alone m) (block-once p (m ∷ []) once))
-    block-laid-once (cycle {members} {plan} numbered items order asks picked stand good read) once =
+    block-laid-once (cycle {members} {plan} numbered items order by_needs asks picked stand good read) once =
         read-once numbered order plan read (Chosen-once picked (block-once p members once))
         (IsOnce-from_distinct order good.order_of.once)
 
@@ -535,7 +535,7 @@ module _ (p : Program) (form : Form) (reading : Reading) (tree : List Item) (pai
       (members : List ℕ) × Contains laid.blocks members × Contains members m
   covered m c = some-in laid.blocks m
       (blocks-has (SharesBlock p) (shares-flip p) (shares-join p) laid.list laid.list laid.blocks
-      laid.are_blocks m c (itself, itself) m c (itself, itself))
+      laid.are_blocks m c (itself, itself, λ asked. refl) m c (itself, itself, λ asked. refl))
 
   whole-in : (c : Cause) → Contains (laid.front ++ (laid.middle ++ laid.back)) c → IsDue p form c
   whole-in c d = elim (Contains-append_cases laid.front (laid.middle ++ laid.back) c d) [

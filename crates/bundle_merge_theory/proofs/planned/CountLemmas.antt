@@ -606,7 +606,7 @@ module _ (p : Program) (form : Form) (d : Decided) (its : AreDecided p form d) w
   block-there m c =
       has-block d.blocks m
       (blocks-has (SharesBlock p) (shares-flip p) (shares-join p) d.list d.list
-      (map members_of_label d.blocks) its.blocks m c (itself, itself) m c (itself, itself))
+      (map members_of_label d.blocks) its.blocks m c (itself, itself, λ asked. refl) m c (itself, itself, λ asked. refl))
 
   of-module : (m : ℕ) (l : Label) → IsReached p m → Contains (module_labels d m) l →
       Contains (injected_labels d) l

@@ -51,7 +51,7 @@ module_zero = record {
 
 block_zero : IsBlockDecided (e.p e.as_module) (record { modules = 0 ∷ []; is_sorted = false })
 block_zero = record {
-  lone = λ same. (0, refl, λ asks. e.no_request e.as_module 0 asks);
+  lone = λ same. (0, refl, λ by_needs asks. e.no_request e.as_module 0 asks);
   sorted = λ t. absurd (true≢false (sym t));
 }
 
@@ -65,8 +65,8 @@ is_decided = record {
   starred = picks.nothing;
   exports = (λ t. absurd (true≢false (sym t)), no_exports);
   blocks =
-      g.BlocksOf.ends (itself, itself) (λ y c s. no_element c)
-      (g.Members.kept (itself, itself) g.Members.nothing) g.BlocksOf.over;
+      g.BlocksOf.ends (itself, itself, λ asked. refl) (λ y c s. no_element c)
+      (g.Members.kept (itself, itself, λ asked. refl) g.Members.nothing) g.BlocksOf.over;
   kinds =
       λ block c. elim (first_or_later (record { modules = 0 ∷ []; is_sorted = false }) [] block c)
       [ inl same ↦ subst (IsBlockDecided (e.p e.as_module)) same block_zero | inr none ↦ absurd (no_element none) ];
@@ -92,6 +92,7 @@ two = record {
     iife = false;
     renames = true;
     most_modules = 9;
+    in_standard_order = false;
   };
   entry = 4;
   count = 8;

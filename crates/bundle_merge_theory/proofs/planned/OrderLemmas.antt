@@ -13,7 +13,7 @@ use Rattle.std.proofs.lemmas.List.Elements.{Contains-append_cases, Contains-appe
 use Rattle.std.proofs.lemmas.Option.{none-some, same_Some}
 use Rattle.std.proofs.lemmas.Slice.Eq.{bytes_eq-Decides}
 use Rattle.std.proofs.lemmas.List.{append_assoc, append-nil}
-use Rattle.bundle_order_graph.specs.Blocks.{Members, nothing, kept, left, BlocksOf, ends, goes_on}
+use Rattle.bundle_order_graph.specs.Blocks.{Members, nothing, kept, left, BlocksOf, ends, goes_on, over}
 use Rattle.bundle_order_graph.proofs.NodeLemmas.{Contains-place, place-in, found, place-contains}
 use Rattle.bundle_order_graph.specs.Walks.{Reaches, itself, along}
 use Rattle.bundle_order_graph.specs.Order.{Lists, finished, passed, listed}
@@ -606,11 +606,12 @@ in_some (one ∷ blocks) zero block n e c =
 in_some (one ∷ blocks) (suc i) block n e c = inr (in_some blocks i block n e c)
 
 pub shares-flip : (p : Program) (a b : ℕ) → SharesBlock p a b → SharesBlock p b a
-shares-flip p a b s = (s.1, s.0)
+shares-flip p a b s = (s.1, s.0, λ e. sym (s.2 e))
 
 pub shares-join : (p : Program) (a b c : ℕ) → SharesBlock p a b → SharesBlock p b c →
     SharesBlock p a c
-shares-join p a b c s t = (Reaches-trans s.0 t.0, Reaches-trans t.1 s.1)
+shares-join p a b c s t =
+    (Reaches-trans s.0 t.0, Reaches-trans t.1 s.1, λ e. s.2 e ∙ t.2 e)
 
 -- no element of a list stands before it as well
 apart : (before : List ℕ) (x : ℕ) (rest : List ℕ) (y : ℕ) → IsOnce (before ++ x ∷ rest) →
@@ -626,37 +627,37 @@ apart (a ∷ before) x rest y once c d = elim (Contains-cons_cases (before ++ x 
   | inr more ↦ apart before x rest y once.1 more d
 ]
 
-module _ (p : Program) (list : List ℕ) (all : AreSettled (requested p) [] list) (once : IsOnce list)
-  where
-    follow : (before rest : List ℕ) (blocks : List (List ℕ)) → list ≡ before ++ rest →
-        BlocksOf (SharesBlock p) list rest blocks → FollowsRequests p blocks
-    follow before rest [] whole b i j m n block other at its c d asks = absurd (none-some block at)
-    follow before [] (first ∷ blocks) whole b i j m n block other at its c d asks = elim b [ ]
-    follow before (x ∷ rest) (first ∷ blocks) whole (ends own none members b) zero zero m n block other at its c d asks = inr refl
-    follow before (x ∷ rest) (first ∷ blocks) whole (ends own none members b) (suc i) zero m n block other at its c d asks = inl (omega arith)
-    follow before (x ∷ rest) (first ∷ blocks) whole (ends own none members b) (suc i) (suc j) m n
-        block other at its c d asks =
-        elim (follow (before ++ x ∷ []) rest blocks (whole ∙ sym (append_assoc before (x ∷ []) rest)) b i j m n block other at its c d asks) [
-          | inl less ↦ inl (omega (arith, less))
-          | inr same ↦ inr (ap suc same)
-        ]
-    follow before (x ∷ rest) (first ∷ blocks) whole (ends own none members b) zero (suc j) m n block
-        other at its c d asks =
-        let here =
-        (Members-in list first members m (subst (λ (l : List ℕ). Contains l m) (sym (same_Some first block at)) c)).1 in
-        let last =
-        blocks-in (SharesBlock p) (shares-flip p) (shares-join p) list rest blocks b n
-        (in_some blocks j other n its d) in
-        let walk : Reaches (Requests p) x last.0 = Reaches-trans here.0 (along asks last.3.1) in
-        absurd (elim (all before x rest whole last.0 walk) [
-          | inl early ↦ apart before x rest last.0 (subst IsOnce whole once) early last.1
-          | inr v ↦ none v.0 (subst (λ (l : List ℕ). Contains l v.0) (append-nil rest) v.1)
-              (v.2.there, v.2.back)
-        ])
-    follow before (x ∷ rest) (first ∷ blocks) whole (goes_on why b) i j m n block other at its c d
-        asks =
-        follow (before ++ x ∷ []) rest (first ∷ blocks)
-        (whole ∙ sym (append_assoc before (x ∷ []) rest)) b i j m n block other at its c d asks
+module _ (p : Program) (by_needs : p.settings.in_standard_order ≡ false) (list : List ℕ)
+    (all : AreSettled (requested p) [] list) (once : IsOnce list) where
+  follow : (before rest : List ℕ) (blocks : List (List ℕ)) → list ≡ before ++ rest →
+      BlocksOf (SharesBlock p) list rest blocks → FollowsRequests p blocks
+  follow before rest [] whole b i j m n block other at its c d asks = absurd (none-some block at)
+  follow before [] (first ∷ blocks) whole b i j m n block other at its c d asks = elim b [ ]
+  follow before (x ∷ rest) (first ∷ blocks) whole (ends own none members b) zero zero m n block other at its c d asks = inr refl
+  follow before (x ∷ rest) (first ∷ blocks) whole (ends own none members b) (suc i) zero m n block other at its c d asks = inl (omega arith)
+  follow before (x ∷ rest) (first ∷ blocks) whole (ends own none members b) (suc i) (suc j) m n
+      block other at its c d asks =
+      elim (follow (before ++ x ∷ []) rest blocks (whole ∙ sym (append_assoc before (x ∷ []) rest)) b i j m n block other at its c d asks) [
+        | inl less ↦ inl (omega (arith, less))
+        | inr same ↦ inr (ap suc same)
+      ]
+  follow before (x ∷ rest) (first ∷ blocks) whole (ends own none members b) zero (suc j) m n block
+      other at its c d asks =
+      let here =
+      (Members-in list first members m (subst (λ (l : List ℕ). Contains l m) (sym (same_Some first block at)) c)).1 in
+      let last =
+      blocks-in (SharesBlock p) (shares-flip p) (shares-join p) list rest blocks b n
+      (in_some blocks j other n its d) in
+      let walk : Reaches (Requests p) x last.0 = Reaches-trans here.0 (along asks last.3.1) in
+      absurd (elim (all before x rest whole last.0 walk) [
+        | inl early ↦ apart before x rest last.0 (subst IsOnce whole once) early last.1
+        | inr v ↦ none v.0 (subst (λ (l : List ℕ). Contains l v.0) (append-nil rest) v.1)
+            (v.2.there, v.2.back, λ e. absurd (false≢true (sym by_needs ∙ e)))
+      ])
+  follow before (x ∷ rest) (first ∷ blocks) whole (goes_on why b) i j m n block other at its c d
+      asks =
+      follow (before ++ x ∷ []) rest (first ∷ blocks)
+      (whole ∙ sym (append_assoc before (x ∷ []) rest)) b i j m n block other at its c d asks
 
 -- the list of a program is settled
 pub list-settled : (p : Program) (list : List ℕ) → IsList p list → AreSettled (requested p) [] list
@@ -666,9 +667,46 @@ list-settled p list is =
 
 -- a block stands after each other block that one of its modules requests
 pub blocks-follow : (p : Program) (list : List ℕ) → IsList p list → IsOnce list →
-    (blocks : List (List ℕ)) → AreBlocks p list blocks → FollowsRequests p blocks
-blocks-follow p list is once blocks b =
-    follow p list (list-settled p list is) once [] list blocks refl b
+    (blocks : List (List ℕ)) → AreBlocks p list blocks →
+    p.settings.in_standard_order ≡ false → FollowsRequests p blocks
+blocks-follow p list is once blocks b by_needs =
+    follow p by_needs list (list-settled p list is) once [] list blocks refl b
+
+-- where the standard's order is asked for, each module of a list is a block of its own
+module _ (p : Program) (asked : p.settings.in_standard_order ≡ true) where
+  none-shares : (x : ℕ) (xs : List ℕ) → (Contains xs x → ⊥) → Members (SharesBlock p x) xs []
+  none-shares x [] out = nothing
+  none-shares x (y ∷ xs) out =
+      left
+      (λ both. out (subst (λ k. Contains (y ∷ xs) k) (sym (both.2 asked)) (Contains-head xs y)))
+      (none-shares x xs (λ c. out (Contains-tail xs y x c)))
+
+  shares-alone : (x : ℕ) (xs : List ℕ) → IsOnce xs → Contains xs x →
+      Members (SharesBlock p x) xs (x ∷ [])
+  shares-alone x [] once c = absurd (nothing_in c)
+  shares-alone x (y ∷ xs) once c =
+      by (λ d. shares-alone x xs once.1 d) (Contains-cons_cases xs y x c)
+    where
+      by : (Contains xs x → Members (SharesBlock p x) xs (x ∷ [])) → (y ≡ x) ⊎ Contains xs x →
+          Members (SharesBlock p x) (y ∷ xs) (x ∷ [])
+      by on (inl same) =
+          subst (λ k. Members (SharesBlock p x) (k ∷ xs) (x ∷ [])) (sym same)
+          (kept (itself, itself, λ e. refl)
+          (none-shares x xs (λ d. once.0 (subst (Contains xs) (sym same) d))))
+      by on (inr d) = left (λ both. once.0 (subst (Contains xs) (both.2 asked) d)) (on d)
+
+  rest-alone : (list rest : List ℕ) → IsOnce list → IsOnce rest →
+      ((m : ℕ) → Contains rest m → Contains list m) →
+      BlocksOf (SharesBlock p) list rest (map (λ m. m ∷ []) rest)
+  rest-alone list [] all once within = over
+  rest-alone list (x ∷ rest) all once within =
+      ends (itself, itself, λ e. refl)
+      (λ y there both. once.0 (subst (Contains rest) (sym (both.2 asked)) there))
+      (shares-alone x list all (within x (Contains-head rest x)))
+      (rest-alone list rest all once.1 (λ m c. within m (Contains-tail rest x m c)))
+
+  pub blocks-alone : (list : List ℕ) → IsOnce list → AreBlocks p list (map (λ m. m ∷ []) list)
+  blocks-alone list once = rest-alone list list once once (λ m c. c)
 
 -- ---- script
 asks-by : (head : Head) (item : List Item) (s : Text) → Contains (requests_by head item) s →

@@ -1,6 +1,6 @@
 -- Where modules stand for each other, so do their blocks; and those that a plan has by the places
 -- of a list are the blocks of the program by places.
-use Rattle.std.proofs.Common.{◌≡◌, ◌⊎◌, inl, inr, ◌↔◌, ℕ, zero, suc, ◌+◌, Bool, true, false, nat_eq, List, [], ◌∷◌, ◌++◌, Some, Contains, length, map, refl, sym, ap, ◌∙◌, subst, cond, eqb-true, eq-eqb, arith}
+use Rattle.std.proofs.Common.{◌≡◌, ◌⊎◌, inl, inr, ◌↔◌, ℕ, zero, suc, ◌+◌, Bool, true, false, nat_eq, List, [], ◌∷◌, ◌++◌, Some, Contains, length, map, refl, sym, ap, ap₂, ◌∙◌, subst, cond, eqb-true, eq-eqb, arith}
 use Rattle.std.specs.Prelude.{flat_map, slice_get}
 use Rattle.std.specs.List.{AllZip}
 use Rattle.std.proofs.lemmas.Bool.{false≢true}
@@ -9,7 +9,7 @@ use Rattle.bundle_order_graph.specs.Modules.{Modules, Requests as Edges, deps}
 use Rattle.bundle_order_graph.specs.Walks.{Reaches, itself, along}
 use Rattle.bundle_order_graph.proofs.OrderLemmas.{Lists-only}
 use Rattle.bundle_order_sort.specs.Places.{ReachEachOther, places_of, places_where}
-use Rattle.bundle_order_sort.specs.Plan.{IsPlanned, IsPlanOf}
+use Rattle.bundle_order_sort.specs.Plan.{IsOwnBlock, IsPlanAsked, IsPlanned, IsPlanOf, IsPlanOfEach}
 use Rattle.bundle_order_sort.specs.declared.plan.Block.{Block}
 use Rattle.bundle_order_sort.specs.declared.plan.Plan.{Plan}
 use Rattle.bundle_order_sort.proofs.OnceLemmas.{IsOnce}
@@ -19,7 +19,7 @@ use Rattle.bundle_link_index.proofs.ProgramLemmas.{later, first_or_later}
 use Rattle.bundle_link.proofs.NumberLemmas.{held}
 use Rattle.bundle_merge_theory.specs.planned.Blocks.{block_of}
 use Rattle.bundle_merge_theory.specs.planned.Decided.{DecidedBlock, IsBlockDecided, numbers_from}
-use Rattle.bundle_merge_theory.proofs.planned.OrderLemmas.{no_element}
+use Rattle.bundle_merge_theory.proofs.planned.OrderLemmas.{no_element, blocks-alone}
 use Rattle.bundle_link_targets.proofs.ListLemmas.{first-there as here}
 use Rattle.bundle_merge_theory.proofs.planned.RequestLemmas.{list-once, list-reached}
 use Rattle.bundle_merge_theory.specs.sound.Known.{IsByPlaces}
@@ -222,10 +222,14 @@ module _ (p q : Program) (ids : List ℕ) (g : Modules) (w : IsByPlaces p q ids 
       let its = walk-back (IsModuleAt ids) (deps g) (requested q) same-edges walk a r in
       subst (Reaches (Edges g) a) (w.alike.other e its.0 b its.1 h) its.2
 
-  shares-both : (a b c e : ℕ) → IsModuleAt ids a c → IsModuleAt ids b e →
-      ReachEachOther g a b ↔ SharesBlock q c e
-  shares-both a b c e r h = (
-    λ s. (reach-on a b c e r h s.0, reach-on b a e c h r s.1),
+  shares-both : q.settings.in_standard_order ≡ false → (a b c e : ℕ) → IsModuleAt ids a c →
+      IsModuleAt ids b e → ReachEachOther g a b ↔ SharesBlock q c e
+  shares-both by_needs a b c e r h = (
+    λ s. (
+      reach-on a b c e r h s.0,
+      reach-on b a e c h r s.1,
+      λ asked. absurd (false≢true (sym by_needs ∙ asked)),
+    ),
     λ s. (reach-back a b c e r h s.0, reach-back b a e c h r s.1),
   )
 
@@ -244,43 +248,52 @@ module _ (p q : Program) (ids : List ℕ) (g : Modules) (w : IsByPlaces p q ids 
     blocks-zip list inside blocks found z.1 all.1,
   )
 
-  one-decided : (members : List ℕ) (f : Block) → IsPlanned g ids members f →
-      AllZip (IsModuleAt ids) members f.places.items → IsBlockDecided q (block_of f)
-  one-decided members f its zip = record {
+  one-decided : q.settings.in_standard_order ≡ false → (members : List ℕ) (f : Block) →
+      IsPlanned g ids members f → AllZip (IsModuleAt ids) members f.places.items →
+      IsBlockDecided q (block_of f)
+  one-decided by_needs members f its zip = record {
     lone = λ e.
         (let r = its.lone e in
         let k = one-forth (IsModuleAt ids) r.0 f.places.items
         (subst (λ (l : List ℕ). AllZip (IsModuleAt ids) l f.places.items) r.1 zip) in
-        (k.0, k.1, λ edge. r.2 (edge-back r.0 k.0 k.2 edge)));
-    sorted = λ e k is.
-        (let m = one-back (IsModuleAt ids) members k (subst (AllZip (IsModuleAt ids) members) is zip) in
-        edge-on m.0 k m.2 (its.cycle e m.0 m.1));
+        (k.0, k.1, λ asked edge. r.2 (edge-back r.0 k.0 k.2 edge)));
+    sorted = λ e. (
+      by_needs,
+      λ k is.
+          (let m = one-back (IsModuleAt ids) members k (subst (AllZip (IsModuleAt ids) members) is zip) in
+          edge-on m.0 k m.2 (its.cycle e m.0 m.1)),
+    );
   }
 
-  each-decided : (blocks : List (List ℕ)) (found : List Block) →
+  each-decided : q.settings.in_standard_order ≡ false → (blocks : List (List ℕ))
+      (found : List Block) →
       AllZip (IsPlanned g ids) blocks found →
       AllZip (AllZip (IsModuleAt ids)) blocks
       (map (λ (block : DecidedBlock). block.modules) (map block_of found)) →
       (block : DecidedBlock) → Contains (map block_of found) block → IsBlockDecided q block
-  each-decided [] [] z all block c = absurd (no_element c)
-  each-decided [] (f ∷ found) z all block c = absurd z
-  each-decided (members ∷ blocks) [] z all block c = absurd z
-  each-decided (members ∷ blocks) (f ∷ found) z all block c =
+  each-decided by_needs [] [] z all block c = absurd (no_element c)
+  each-decided by_needs [] (f ∷ found) z all block c = absurd z
+  each-decided by_needs (members ∷ blocks) [] z all block c = absurd z
+  each-decided by_needs (members ∷ blocks) (f ∷ found) z all block c =
       elim (first_or_later (block_of f) (map block_of found) block c) [
-        | inl e ↦ subst (IsBlockDecided q) e (one-decided members f z.0 all.0)
-        | inr rest ↦ each-decided blocks found z.1 all.1 block rest
+        | inl e ↦ subst (IsBlockDecided q) e (one-decided by_needs members f z.0 all.0)
+        | inr rest ↦ each-decided by_needs blocks found z.1 all.1 block rest
       ]
 
-  -- the blocks of a plan by the places of the list are those of the program by places
-  pub planned-blocks : (plan : Plan) → IsPlanOf g p.entry ids plan →
+  -- what the blocks of a plan are in the program by places
+  abbrev AreBlocksPlanned : Plan → Type 0
+  AreBlocksPlanned plan =
       AreBlocks q (numbers_from zero (length ids))
       (map (λ (block : DecidedBlock). block.modules) (map block_of plan.blocks.items))
       × ((block : DecidedBlock) → Contains (map block_of plan.blocks.items) block →
       IsBlockDecided q block)
-  planned-blocks plan its = (
-    blocks-on (IsModuleAt ids) w.alike.one (ReachEachOther g) (SharesBlock q) shares-both its.are_blocks
-        nums nums _ beside beside zip,
-    each-decided its.blocks plan.blocks.items its.planned zip,
+
+  blocks-by-requests : q.settings.in_standard_order ≡ false → (plan : Plan) →
+      IsPlanOf g p.entry ids plan → AreBlocksPlanned plan
+  blocks-by-requests by_needs plan its = (
+    blocks-on (IsModuleAt ids) w.alike.one (ReachEachOther g) (SharesBlock q)
+        (shares-both by_needs) its.are_blocks nums nums _ beside beside zip,
+    each-decided by_needs its.blocks plan.blocks.items its.planned zip,
   )
     where
       nums : List ℕ
@@ -299,3 +312,55 @@ module _ (p q : Program) (ids : List ℕ) (g : Modules) (w : IsByPlaces p q ids 
           blocks-zip its.list
           (λ m c. let at = zip-forth (IsModuleAt ids) its.list nums beside m c in held ids m at.0 at.2)
           its.blocks plan.blocks.items its.planned (blocks-in-list its.are_blocks)
+
+  -- blocks of one module each
+  own-modules : (numbers : List ℕ) (found : List Block) → AllZip IsOwnBlock numbers found →
+      map (λ m. m ∷ []) numbers
+      ≡ map (λ (block : DecidedBlock). block.modules) (map block_of found)
+  own-modules [] [] z = refl
+  own-modules [] (f ∷ found) z = absurd z
+  own-modules (n ∷ numbers) [] z = absurd z
+  own-modules (n ∷ numbers) (f ∷ found) z =
+      ap₂ (λ (block : List ℕ) (blocks : List (List ℕ)). block ∷ blocks) (sym z.0.places)
+      (own-modules numbers found z.1)
+
+  own-decided : q.settings.in_standard_order ≡ true → (n : ℕ) (f : Block) → IsOwnBlock n f →
+      IsBlockDecided q (block_of f)
+  own-decided asked n f its = record {
+    lone = λ e. (n, its.places, λ by_needs. absurd (false≢true (sym by_needs ∙ asked)));
+    sorted = λ e. absurd (false≢true (sym its.unsorted ∙ e));
+  }
+
+  each-own : q.settings.in_standard_order ≡ true → (numbers : List ℕ) (found : List Block) →
+      AllZip IsOwnBlock numbers found →
+      (block : DecidedBlock) → Contains (map block_of found) block → IsBlockDecided q block
+  each-own asked [] [] z block c = absurd (no_element c)
+  each-own asked [] (f ∷ found) z block c = absurd z
+  each-own asked (n ∷ numbers) [] z block c = absurd z
+  each-own asked (n ∷ numbers) (f ∷ found) z block c =
+      elim (first_or_later (block_of f) (map block_of found) block c) [
+        | inl e ↦ subst (IsBlockDecided q) e (own-decided asked n f z.0)
+        | inr rest ↦ each-own asked numbers found z.1 block rest
+      ]
+
+  blocks-of-each : q.settings.in_standard_order ≡ true → (plan : Plan) →
+      IsPlanOfEach (length ids) plan → AreBlocksPlanned plan
+  blocks-of-each asked plan its = (
+    subst (AreBlocks q numbers) (own-modules numbers plan.blocks.items its.blocks)
+        (blocks-alone q asked numbers
+        (list-once q numbers (places-list p q ids w.is_list w.alike))),
+    each-own asked numbers plan.blocks.items its.blocks,
+  )
+    where
+      numbers : List ℕ
+      numbers = numbers_from zero (length ids)
+
+  -- the blocks of a plan by the places of the list are those of the program by places
+  pub planned-blocks : (plan : Plan) →
+      IsPlanAsked p.settings.in_standard_order g p.entry ids plan → AreBlocksPlanned plan
+  planned-blocks plan its = by p.settings.in_standard_order refl
+    where
+      by : (t : Bool) → p.settings.in_standard_order ≡ t → AreBlocksPlanned plan
+      by false e =
+          blocks-by-requests (sym w.alike.in_standard_order ∙ e) plan (its.by_requests e)
+      by true e = blocks-of-each (sym w.alike.in_standard_order ∙ e) plan (its.of_each e)

@@ -3,7 +3,7 @@
 -- Used by folders `finished`, `together` and by the crates `bundle_merge`, `bundler_entry`.
 use Rattle.std.proofs.Common.{ℕ, zero, Bool, List, length, map, subst, arith}
 use Rattle.bundle_order_graph.specs.Modules.{Modules}
-use Rattle.bundle_order_sort.specs.Plan.{IsPlanOf}
+use Rattle.bundle_order_sort.specs.Plan.{IsPlanAsked}
 use Rattle.bundle_order_sort.specs.declared.plan.Plan.{Plan}
 use Rattle.bundle_rules.specs.Program.{Program}
 use Rattle.bundle_rules.specs.Bundle.{AsModule}
@@ -35,7 +35,8 @@ linked-by p q ids g places linking meta count linked handed are told = record {
 -- what linking, tables and the plan of the list say of them is decided
 pub decided : (p q : Program) (ids : List ℕ) (g : Modules) → IsByPlaces p q ids g →
     (linking : Linking) (meta : ℕ → Bool) (count : ℕ → ℕ) →
-    AreTablesLinked q (length ids) linking meta count → (plan : Plan) → IsPlanOf g p.entry ids plan →
+    AreTablesLinked q (length ids) linking meta count → (plan : Plan) →
+    IsPlanAsked p.settings.in_standard_order g p.entry ids plan →
     AreDecided q AsModule
     (decided_by linking meta count (length ids) (map block_of plan.blocks.items))
 decided p q ids g places linking meta count w plan planned =

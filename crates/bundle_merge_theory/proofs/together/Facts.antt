@@ -52,8 +52,8 @@ module _ (p : Program) (form : Form) (tree : List Item) (plan : List Cause)
       IsBlockLaidOut p form tree ByContext (pairing_of labels items plan) members causes →
       IsBlockLaidOut p form tree ByContext (pairing_of others items plan) members causes
   block-again (lone apart its) = lone apart its
-  block-again (cycle numbered tops order asks numbers stand ordered its) =
-      cycle numbered tops order asks numbers (stands-again numbered tops stand) ordered its
+  block-again (cycle numbered tops order by_needs asks numbers stand ordered its) =
+      cycle numbered tops order by_needs asks numbers (stands-again numbered tops stand) ordered its
 
   blocks-again : {blocks : List (List ℕ)} {causes : List Cause} →
       AreBlocksLaidOut p form tree ByContext (pairing_of labels items plan) blocks causes →

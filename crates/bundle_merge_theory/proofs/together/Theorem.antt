@@ -4,7 +4,7 @@
 use Rattle.std.proofs.Common.{◌≡◌, ℕ, zero, Bool, List, [], Option, length, map}
 use Rattle.bundle_syntax.specs.Item.{Item}
 use Rattle.bundle_order_graph.specs.Modules.{Modules}
-use Rattle.bundle_order_sort.specs.Plan.{IsPlanOf}
+use Rattle.bundle_order_sort.specs.Plan.{IsPlanAsked}
 use Rattle.bundle_order_sort.specs.declared.plan.Plan.{Plan}
 use Rattle.bundle_rules.specs.Kept.{local_context}
 use Rattle.bundle_rules.specs.Program.{Program, IsReached}
@@ -28,7 +28,7 @@ use Rattle.bundle_merge_theory.proofs.sound.Sound.{sound}
 use Rattle.bundle_merge_theory.proofs.sound.Decided.{decided}
 use Rattle.bundle_merge_theory.proofs.together.End.{made-alone}
 
-module _ (p q : Program) (ids : List ℕ) (g : Modules) (places : IsByPlaces p q ids g) (known : AreKnown p q ids) (moved : AreMoved p q ids) (linking : Linking) (meta : ℕ → Bool) (count : ℕ → ℕ) (linked : AreTablesLinked q (length ids) linking meta count) (plan : Plan) (planned : IsPlanOf g p.entry ids plan) (hooks : Hooks) (context : BundleContexts) (answers : ℕ → Option HookAnswer) where
+module _ (p q : Program) (ids : List ℕ) (g : Modules) (places : IsByPlaces p q ids g) (known : AreKnown p q ids) (moved : AreMoved p q ids) (linking : Linking) (meta : ℕ → Bool) (count : ℕ → ℕ) (linked : AreTablesLinked q (length ids) linking meta count) (plan : Plan) (planned : IsPlanAsked p.settings.in_standard_order g p.entry ids plan) (hooks : Hooks) (context : BundleContexts) (answers : ℕ → Option HookAnswer) where
   -- modules by their places
   abbrev places_of : List ℕ
   places_of = numbers_from zero (length ids)

@@ -2,6 +2,7 @@
 use Rattle.std.specs.Prelude.{◌≡◌, ℕ, zero, suc, ◌+◌, ◌<◌, nat_eq, unwrap_or, ◌↔◌, Bool, true, false, IsTrue, List, [], ◌∷◌, ◌++◌, Contains, length, map, flat_map, filter, filter_map, slice_get, if◌then◌else◌}
 use Rattle.std.specs.List.{AllZip, list_any}
 use Rattle.bundle_syntax.specs.Item.{Item}
+pub use Rattle.bundle_order_sort.specs.Places.{numbers_from}
 use Rattle.bundle_rules.specs.Declarations.{Reading}
 use Rattle.bundle_order_graph.specs.Blocks.{Members}
 use Rattle.bundle_rules.specs.Nodes.{Text, numbers_once}
@@ -72,11 +73,6 @@ abbrev pub external_plan : DecidedExternal → List Cause
 external_plan e =
     names_plan e.names e.specifier ++
     (one_if e.whole (ImportsWhole e.specifier) ++ bare_plan e.names e.whole e.specifier)
-
--- the numbers from n on, so many
-abbrev pub numbers_from : ℕ → ℕ → List ℕ
-numbers_from n zero = []
-numbers_from n (suc count) = n ∷ numbers_from (suc n) count
 
 -- what a module that is no CommonJS module makes
 abbrev pub es_plan : Decided → ℕ → List Cause
@@ -241,10 +237,15 @@ pub record IsModuleDecided (p : Program) (d : Decided) (m : ℕ) : Type 0 where
   pub statements : d.statements m ≡ length (own_statements (tree_of p m))
   pub object : IsTrue (d.is_object_meant m) ↔ IsMeant p (Of (Namespace m))
 
--- a block is of one module that does not request itself, or else it is sorted
+-- a block is of one module, and if the standard's order is not asked for, of one that does not request
+-- itself; or else it is sorted, and that order is not asked for
 pub record IsBlockDecided (p : Program) (block : DecidedBlock) : Type 0 where
-  pub lone : block.is_sorted ≡ false → (m : ℕ) × (block.modules ≡ m ∷ []) × (Requests p m m → ⊥)
-  pub sorted : block.is_sorted ≡ true → (m : ℕ) → block.modules ≡ m ∷ [] → Requests p m m
+  pub lone : block.is_sorted ≡ false →
+      (m : ℕ) × (block.modules ≡ m ∷ []) ×
+      (p.settings.in_standard_order ≡ false → Requests p m m → ⊥)
+  pub sorted : block.is_sorted ≡ true →
+      (p.settings.in_standard_order ≡ false)
+      × ((m : ℕ) → block.modules ≡ m ∷ [] → Requests p m m)
 
 -- each of these is what the definitions say
 pub record AreDecided (p : Program) (form : Form) (d : Decided) : Type 0 where

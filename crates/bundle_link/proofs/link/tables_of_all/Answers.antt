@@ -14,7 +14,7 @@ returns-in_err-read-clause-refused c =
     let all = c.args.modules.now in
     let one = c.module-item.result in
     let there = slice_get_read all (length all) c.loop-module.module-index one refl (omega arith) c.module-item.is in
-    let p = err_from_is_err_and c.from_residual.result c.from_residual.ensures.1 in
+    let p = err_from_is_err_and c.from_residual-in_err-read.result c.from_residual-in_err-read.ensures.1 in
     rw (p.1, p.2) (inr (one, at_own all c.loop-module.module-index one there, c.in_err-read.ensures.refused))
 
 pub loop-module-preserved : goal.loop-module-preserved

@@ -1,10 +1,9 @@
 -- The tables are those of the list, and the fault is its first.
-use Rattle.std.proofs.Common.{ap, sym, ◌∙◌, subst, map, string_bytes}
+use Rattle.std.proofs.Common.{sym, subst, map}
 use Rattle.std.specs.Prelude.{IfSome}
 use Rattle.bundle_tree_names.specs.FileName.{name_of}
 use Rattle.bundle_syntax.specs.Item.{item_of}
-use Rattle.bundle_link_tables.specs.Sources.{told_external}
-use Rattle.bundle_rules.specs.Entries.{declared_requests}
+use Rattle.bundle_link_tables.specs.Sources.{HasTexts}
 use Rattle.bundle_rules.specs.Faults.{IsFirstTreeFault}
 use Rattle.bundle_link.proofs.tables.read_list.Goals as goal
 
@@ -17,16 +16,15 @@ returns-in-Ok-clause-given c =
     let arguments = rw c.in-Ok.is at c.in_ok-answer.ensures.arguments in
     let common_js = rw c.in-Ok.is at c.in_ok-answer.ensures.common_js in
     let uses = rw c.in-Ok.is at c.in_ok-answer.ensures.uses in
+    let sources = rw c.in-Ok.is at c.in_ok-answer.ensures.sources in
     record {
       faultless = judged;
-      requests = λ settings links. requests settings links.0 (links.1 ∙ ap (map string_bytes) (sym c.deref.ensures.value)) c.in_ok-names.ensures;
+      requests = λ settings links. requests settings links.0 (subst (HasTexts c.args.external.now) (sym links.1) c.requires) c.in_ok-names.ensures;
       imports = rw c.in-Ok.is at c.in_ok-answer.ensures.imports;
       exports = rw c.in-Ok.is at c.in_ok-answer.ensures.exports;
       stars = rw c.in-Ok.is at c.in_ok-answer.ensures.stars;
-      sources = λ settings links.
-          rw c.in-Ok.is at c.in_ok-answer.ensures.sources
-          ∙ ap (λ external. map (told_external external) (declared_requests (map item_of c.args.pieces.now))) (ap (map string_bytes) c.deref.ensures.value ∙ sym links.1);
-      calls = λ settings links. calls settings links.0 (links.1 ∙ ap (map string_bytes) (sym c.deref.ensures.value)) c.in_ok-names.ensures;
+      sources = λ settings links. sources settings.external (subst (HasTexts c.args.external.now) (sym links.1) c.requires);
+      calls = λ settings links. calls settings links.0 (subst (HasTexts c.args.external.now) (sym links.1) c.requires) c.in_ok-names.ensures;
       script = rw c.in-Ok.is at c.in_ok-answer.ensures.script;
       common_js = common_js c.in_ok-names.ensures;
       awaits = rw c.in-Ok.is at c.in_ok-answer.ensures.awaits;

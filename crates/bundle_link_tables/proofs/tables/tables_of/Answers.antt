@@ -1,9 +1,9 @@
 -- The tables of the list by the texts of the call, or its first fault.
-use Rattle.std.proofs.Common.{◌≡◌, List, None, rules, ap, sym, ◌∙◌, map, string_bytes}
+use Rattle.std.proofs.Common.{◌≡◌, List, None, rules, ap, ◌∙◌, map}
 use Rattle.std.specs.Borrow.{Bor}
 use Rattle.bundle_syntax.specs.Item.{item_of}
 use Rattle.bundle_rules.specs.Bound.{is_free}
-use Rattle.bundle_rules.specs.Nodes.{Text, has_text}
+use Rattle.bundle_rules.specs.Nodes.{Text}
 use Rattle.bundle_rules.specs.Faults.{entry_name}
 use Rattle.bundle_link_tables.specs.declared.table.Export.{Export}
 use Rattle.bundle_link_tables.specs.Sources.{source_asked}
@@ -16,19 +16,17 @@ use Rattle.bundle_link_tables.proofs.ToldLemmas.{found_first, found_none, told_b
 use Rattle.bundle_link_tables.proofs.tables.tables_of.Goals as goal
 
 pub returns-clause-sources : goal.returns-clause-sources
-returns-clause-sources c =
-    let texts = map string_bytes c.args.external.now in
-    ap (map source_asked) c.put_together.ensures.sources ∙ c.in_ok-entries.ensures.sources ∙ told_all c.in_ok-external.external texts _ c.in_ok-external.ensures
+returns-clause-sources c = λ texts holds.
+    ap (map source_asked) c.put_together.ensures.sources ∙ c.in_ok-entries.ensures.sources ∙ told_all c.args.external.now texts _ holds
 
 pub returns-clause-requests : goal.returns-clause-requests
-returns-clause-requests c = λ settings same said is.
-    let texts = map string_bytes c.args.external.now in
+returns-clause-requests c = λ settings same holds is.
     let tree = map item_of c.args.pieces.now in
     ap (map (λ (request : Bor Text). request.now)) c.put_together.ensures.requests
     ∙ c.in_ok-made.ensures.requests
-    ∙ requested settings (is_free tree) tree texts c.in_ok-entries.entries.given.sources.items c.in_ok-made.made.calls.items said
-    (c.in_ok-entries.ensures.sources ∙ told_all c.in_ok-external.external texts _ c.in_ok-external.ensures)
-    (c.in_ok-made.ensures.calls settings same (λ x. c.in_ok-external.ensures x ∙ ap (has_text x) (sym said)) is)
+    ∙ requested settings (is_free tree) tree c.in_ok-entries.entries.given.sources.items c.in_ok-made.made.calls.items
+    (c.in_ok-entries.ensures.sources ∙ told_all c.args.external.now settings.external _ holds)
+    (c.in_ok-made.ensures.calls settings same holds is)
 
 pub returns-clause-judged : goal.returns-clause-judged
 returns-clause-judged c = λ file is.

@@ -1,5 +1,6 @@
 -- What is merged is merged of copies of the prepared items, and no fault of theirs is told.
-use Rattle.std.proofs.Common.{◌≡◌, ℕ, List, length, map, inl, inr, sym, subst}
+use Rattle.std.proofs.Common.{◌≡◌, ℕ, List, arith, length, map, inl, inr, sym, subst}
+use Rattle.std.specs.Prelude.{Err, IfOk, Ok, Result}
 use Rattle.std.proofs.lemmas.Result.{IfOk-weaker, IfErr-weaker, err_from_is_err_and}
 use Rattle.bundle_tree_ast.specs.declared.module.Module.{Module}
 use Rattle.bundle_tree_names.specs.FileName.{Name as FileName}
@@ -18,8 +19,10 @@ use Rattle.bundle_merge.specs.Prepared.{items_of_each}
 use Rattle.bundle_merge.specs.Read.{AreAllKnown}
 use Rattle.bundle_merge.specs.Ready.{Answering, IsMergeable, hooks_by}
 use Rattle.bundle_merge.specs.Refusals.{MayLackNames}
+use Rattle.bundle_merge.specs.Standing.{HasContextsBelow}
 use Rattle.bundle_merge.specs.declared.read.ReadModule.{ReadModule}
 use Rattle.bundle_merge.proofs.Joining.{long-copies, memory-alone, read-in}
+use Rattle.bundle_merge.proofs.Known.{all-there}
 use Rattle.bundle_merge.proofs.Objects.{answers-fit}
 use Rattle.bundle_merge.proofs.Ready.{all-known}
 use Rattle.bundle_merge.proofs.joined.joined_of.Goals as goal
@@ -36,6 +39,19 @@ returns-in_err-reads-clause-lacks c =
     inl (memory-alone p hooks its next prepared linker w ready fits copies copied _
     (c.in_err-reads.ensures.told (all-known p hooks its next prepared linker w ready fits)
     (long-copies p hooks its next prepared linker w ready fits copies copied)))))
+
+pub returns-in_err-reads-clause-told : goal.returns-in_err-reads-clause-told
+returns-in_err-reads-clause-told c =
+    let q = err_from_is_err_and c.from_residual.result c.from_residual.ensures.1 in
+    rw (q.1, q.2) (λ p its w long.
+    elim (c.in_err-reads.ensures.told (all-there p its c.args.linker.now w) long) [
+      | inl memory ↦ inl (inl memory)
+      | inr told ↦ inr told
+    ])
+
+pub returns-in-Ok-clause-told : goal.returns-in-Ok-clause-told
+returns-in-Ok-clause-told c =
+    IfErr-weaker c.with_next.result _ _ (λ refusal lack p its w long. inl lack) c.with_next.ensures.refused
 
 -- what was read is read of the program
 abbrev IsReadSo : (linker : Linker) (copies : List Module) (next : ℕ) (reads : List ReadModule) → Type 0
@@ -84,6 +100,37 @@ returns-in-Ok-clause-bundle c =
     (λ (l : List ReadModule). AreReadIn (cleared_program p) hooks linker (λ m. (its m).local) next l)
     (sym c.deref.ensures.value) read))))))
     c.with_next.ensures.made
+
+-- both of what is so where something is made
+made-both : {T E : Type 0} (r : Result T E) (P Q : T → Type 0) → IfOk r P → IfOk r Q →
+    IfOk r (λ made. P made × Q made)
+made-both (Ok made) P Q one two = (one, two)
+made-both (Err refusal) P Q one two = tt
+
+pub returns-in-Ok-clause-below : goal.returns-in-Ok-clause-below
+returns-in-Ok-clause-below c =
+    let linker = c.args.linker.now in
+    let copies = c.args.copies.now in
+    let next = c.args.contexts.now.next in
+    let reads = c.in_ok-reads.reads.items in
+    IfOk-weaker c.with_next.result _ _
+    (λ made both p given its prepared w ready keys copied.
+    (let hooks = hooks_by given in
+    let read =
+    read-so linker c.args.places.now.keys copies next reads keys c.in_ok-reads.ensures.read p given
+    its prepared w ready copied in
+    let below =
+    c.in-Ok.ensures.below (cleared_program p) given (λ m. (its m).local)
+    (subst
+    (λ (n : ℕ). AreReadIn (cleared_program p) hooks linker (λ m. (its m).local) n c.deref.result.now)
+    (sym c.next.ensures)
+    (subst
+    (λ (l : List ReadModule). AreReadIn (cleared_program p) hooks linker (λ m. (its m).local) next l)
+    (sym c.deref.ensures.value) read)) in
+    subst (λ (m : Module). HasContextsBelow made.1 (joined_items (module_item_lists m)))
+    (sym both.0)
+    (λ o there. (let its_own = below o there in let above = both.1 in omega (arith, its_own, above)))))
+    (made-both c.with_next.result _ _ c.with_next.ensures.made c.with_next.ensures.above)
 
 pub returns-in-Ok-clause-lacks : goal.returns-in-Ok-clause-lacks
 returns-in-Ok-clause-lacks c =

@@ -16,13 +16,13 @@ its_module found = option_map (λ its. its.now) found
 
 pub returns-in_err-read_module-clause-refused : goal.returns-in_err-read_module-clause-refused
 returns-in_err-read_module-clause-refused c =
-    let p = err_from_is_err_and c.from_residual.result c.from_residual.ensures.1 in
+    let p = err_from_is_err_and c.from_residual-in_err-read_module.result c.from_residual-in_err-read_module.ensures.1 in
     rw (p.1, p.2)
     (inr (c.in-Some.known.now, _, c.in-Some.ensures.found, c.in_err-read_module.ensures.refused))
 
 pub returns-in_err-read_module-clause-told : goal.returns-in_err-read_module-clause-told
 returns-in_err-read_module-clause-told c =
-    let p = err_from_is_err_and c.from_residual.result c.from_residual.ensures.1 in
+    let p = err_from_is_err_and c.from_residual-in_err-read_module.result c.from_residual-in_err-read_module.ensures.1 in
     rw (p.1, p.2)
     (λ known long.
     (let linker = c.args.linker.now in
@@ -50,6 +50,11 @@ returns-in_err-read_module-clause-told c =
       is_known = found.2;
       told = c.in_err-read_module.ensures.refused;
     })))
+
+pub returns-in_err-external-clause-told : goal.returns-in_err-external-clause-told
+returns-in_err-external-clause-told c =
+    let p = err_from_is_err_and c.from_residual.result c.from_residual.ensures.1 in
+    rw (p.1, p.2) (λ known long. inl refl)
 
 pub returns-in_err-push-clause-told : goal.returns-in_err-push-clause-told
 returns-in_err-push-clause-told c =

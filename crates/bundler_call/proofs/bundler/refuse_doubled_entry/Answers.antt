@@ -8,16 +8,16 @@ pub loop-name-preserved : goal.loop-name-preserved
 loop-name-preserved c =
     one_more c.args.entries.now c.loop-name.name-index _ c.loop-name-test.true (sym c.loop-name-item.is)
     c.loop-name.names.keys c.as_str.result.now c.in_ok-is_new_name.is_new_name c.as_str.ensures.value c.in_ok-is_new_name.ensures.added c.loop-name.invariant.0
-    c.loop-name.files.keys c.in_ok-is_new_file.is_new_file c.in_ok-is_new_file.ensures.added c.loop-name.invariant.1
+    c.loop-name.files c.in_ok-is_new_file.is_new_file c.in_ok-is_new_file.ensures.added c.loop-name.invariant.1
     c.loop-name.invariant.2
-    c.insert.new.self.keys c.as_str.result c.insert-in-loop-name.new.self.keys _ refl refl
-    c.if-not-is_new_file.false c.in_ok-is_new_name.ensures.keys c.in_ok-is_new_file.ensures.keys
+    c.insert.new.self.keys c.as_str.result c.note_file.new.files refl
+    c.if-not-is_new_file.false c.in_ok-is_new_name.ensures.keys (c.in_ok-is_new_file.ensures.put c.if-not-is_new_file.false.1)
 
 pub returns-then-not-is_new_file-clause-doubled : goal.returns-then-not-is_new_file-clause-doubled
 returns-then-not-is_new_file-clause-doubled c =
     list_told (map entry_of c.args.entries.now) _ _ c.in_ok-doubled_entry.ensures (not_both c.args.entries.now c.loop-name.name-index _ c.loop-name-test.true (sym c.loop-name-item.is)
     c.loop-name.names.keys c.as_str.result.now c.in_ok-is_new_name.is_new_name c.as_str.ensures.value c.in_ok-is_new_name.ensures.added c.loop-name.invariant.0
-    c.loop-name.files.keys c.in_ok-is_new_file.is_new_file c.in_ok-is_new_file.ensures.added c.loop-name.invariant.1
+    c.loop-name.files c.in_ok-is_new_file.is_new_file c.in_ok-is_new_file.ensures.added c.loop-name.invariant.1
     c.loop-name.invariant.2
     (elim c.if-not-is_new_file.either [ inl file ↦ inr file.1 | inr name ↦ inl name ]))
 

@@ -20,7 +20,7 @@ pub loop-place-init : goal.loop-place-init
 loop-place-init g c = (λ entries. proceeds_refl _ _ (settings_of c.args.config.now) entries _ _ (kept_of c.args.library.now.kept), c.requires.met, none_before (kept_of c.args.library.now.kept) _, none_before_all _, λ outcome last all. all, begins_refl _, λ numbered. numbered, λ none numbered. asked_first (settings_of c.args.config.now) (kept_of c.args.library.now.kept) c.args.list.files c.args.list.deps.items none, stands_refl g.L.Load.may_load g.L.Load.may_fail_load c.args.library.now.loader (kept_of c.args.library.now.kept), λ lent. refl)
 
 pub work_on-requires : goal.work_on-requires
-work_on-requires g c = record { met = c.loop-place.invariant.1; numbered = c.loop-place.invariant.6 c.requires.numbered; listed = c.loop-place.invariant.1 c.loop-place.place (name_of c.in-Some.file) (sym c.in_ok-file.ensures.file ∙ ap (option_map name_of) c.in-Some.is) }
+work_on-requires g c = record { external = c.in_ok-external.ensures; met = c.loop-place.invariant.1; numbered = c.loop-place.invariant.6 c.requires.numbered; listed = c.loop-place.invariant.1 c.loop-place.place (name_of c.in-Some.file) (sym c.in_ok-file.ensures.file ∙ ap (option_map name_of) c.in-Some.is) }
 
 pub returns-in_err-work_on-clause-grows : goal.returns-in_err-work_on-clause-grows
 returns-in_err-work_on-clause-grows g c = λ entries. proceeds_trans _ g.L.Load.may_fail_load _ (settings_of c.args.config.now) entries _ _ _ _ _ _ _ _ (c.loop-place.invariant.0 entries) c.loop-place.invariant.8 (c.in_err-work_on.ensures.grows entries)
@@ -54,9 +54,15 @@ pub returns-clause-loaded : goal.returns-clause-loaded
 returns-clause-loaded g c =
     all_kept_within (kept_of c.loop-place.library.kept) (files_on c.loop-place.list) c.loop-place.place (short_enough c.loop-place.list.files c.len-count.result c.loop-place.place c.len-count.ensures.len c.len-count.ensures.small c.loop-place-test.false) c.loop-place.invariant.2
 
+pub returns-in_err-external-clause-grows : goal.returns-in_err-external-clause-grows
+returns-in_err-external-clause-grows g c = λ entries. proceeds_refl _ _ (settings_of c.args.config.now) entries _ _ (kept_of c.args.library.now.kept)
+
+pub returns-in_err-external-clause-judged : goal.returns-in_err-external-clause-judged
+returns-in_err-external-clause-judged g c = ends_handed _ OutOfMemory _ c.from_residual.ensures.1 j.LoadsAll.stopped
+
 pub returns-in_err-file-clause-judged : goal.returns-in_err-file-clause-judged
 returns-in_err-file-clause-judged g c =
-    ends_handed _ OutOfMemory _ c.from_residual.ensures.1 (c.loop-place.invariant.4 Stopped (kept_of c.loop-place.library.kept) j.LoadsAll.stopped)
+    ends_handed _ OutOfMemory _ c.from_residual-in_err-file.ensures.1 (c.loop-place.invariant.4 Stopped (kept_of c.loop-place.library.kept) j.LoadsAll.stopped)
 
 pub returns-in_err-work_on-clause-judged : goal.returns-in_err-work_on-clause-judged
 returns-in_err-work_on-clause-judged g c =

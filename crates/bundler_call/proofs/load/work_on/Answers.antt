@@ -15,6 +15,9 @@ use Rattle.bundler_call.proofs.Leading.{all_asked, noted_last, still_all_numbere
 use Rattle.bundler_call.proofs.Programs.{requested, sound, work_done, work_faulty, work_stopped, work_unloaded}
 use Rattle.bundler_call.proofs.load.work_on.Goals as goal
 
+pub kept_requests-requires : goal.kept_requests-requires
+kept_requests-requires g c = record { external = c.requires.external; kept = c.in_ok-load.ensures.there }
+
 pub ask_each-requires : goal.ask_each-requires
 ask_each-requires g c = record { met = still_all_met _ (kept_of c.load.new.self.kept) (proceeds_stays _ _ (settings_of c.args.config.now) [] _ _ _ _ _ (c.in_ok-load.ensures.grows [])) _ c.requires.met; numbered = still_all_numbered (kept_of c.args.library.now.kept) (kept_of c.load.new.self.kept) (proceeds_stays _ _ (settings_of c.args.config.now) [] _ _ _ _ _ (c.in_ok-load.ensures.grows [])) c.args.list.now.files c.requires.numbered; loaded = c.in_ok-load.ensures.there }
 

@@ -10,10 +10,13 @@ use Rattle.bundler_call.proofs.Sources.{is_there, read_sound, module_numbered}
 use Rattle.bundler_call.proofs.program.kept_source.Goals as goal
 
 pub unwrap-loaded-requires : goal.unwrap-loaded-requires
-unwrap-loaded-requires c = is_there (kept_of c.args.kept.now) (name_of c.args.file.now) c.module_in.result c.module_in.ensures c.requires
+unwrap-loaded-requires c = is_there (kept_of c.args.kept.now) (name_of c.args.file.now) c.module_in.result c.module_in.ensures c.requires.sound
 
 pub source_of-requires : goal.source_of-requires
-source_of-requires c = read_sound (kept_of c.args.kept.now) (name_of c.args.file.now) c.unwrap-loaded.result.now (sym c.module_in.ensures ∙ ap (option_map (λ (x : Bor ModuleData). kept_as x.now)) c.unwrap-loaded.ensures) c.requires
+source_of-requires c = record {
+  faultless = read_sound (kept_of c.args.kept.now) (name_of c.args.file.now) c.unwrap-loaded.result.now (sym c.module_in.ensures ∙ ap (option_map (λ (x : Bor ModuleData). kept_as x.now)) c.unwrap-loaded.ensures) c.requires.sound;
+  external = c.requires.external;
+}
 
 pub returns : goal.returns
 returns c =

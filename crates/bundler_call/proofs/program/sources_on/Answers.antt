@@ -8,7 +8,7 @@ use Rattle.bundler_call.proofs.program.sources_on.Goals as goal
 
 pub loop-file-init : goal.loop-file-init
 loop-file-init c = (
-  c.requires,
+  c.requires.sound,
   λ numbered. read_none (kept_of c.args.kept.now) (settings_of c.args.config.now) c.args.list.now.files c.args.list.now.files _ refl c.new-sources.ensures.items numbered,
 )
 
@@ -20,7 +20,10 @@ kept_source-requires c =
     let same = c.as_slice-file-items.ensures in
     let is = c.loop-file-item.is ∙ ap (λ l. get_or l i e) same in
     let within = subst (λ l. i < length l) same c.loop-file-test.true in
-    first_kept (kept_of c.args.kept.now) (drop i files) (drop (i + 1) files) e c.loop-file.invariant.0 (one-left files i e within is)
+    record {
+      external = c.requires.external;
+      sound = first_kept (kept_of c.args.kept.now) (drop i files) (drop (i + 1) files) e c.loop-file.invariant.0 (one-left files i e within is);
+    }
 
 pub loop-file-preserved : goal.loop-file-preserved
 loop-file-preserved c =

@@ -1,7 +1,7 @@
 -- What is linked is the entry's, and a refusal is of its program.
-use Rattle.std.proofs.Common.{ℕ, List, sym, subst}
+use Rattle.std.proofs.Common.{ℕ, Bool, List, sym, subst}
 use Rattle.std.proofs.lemmas.Result.{err_from_is_err_and}
-use Rattle.bundle_order_sort.specs.Plan.{IsPlanOf}
+use Rattle.bundle_order_sort.specs.Plan.{IsPlanAsked}
 use Rattle.bundler_entry.proofs.linked.linked_entry.Goals as goal
 
 pub returns-in_err-linking-clause-refused : goal.returns-in_err-linking-clause-refused
@@ -21,6 +21,7 @@ returns-clause-linked c = λ p w.
       reached = reached;
       links = c.in_ok-linking.ensures.linked p c.args.entry w reached;
       planned =
-          subst (λ (entry : ℕ). IsPlanOf c.args.call.now.program.now.files.graph entry c.in_ok-reached.reached.list.items c.in_ok-plan.plan) (sym w.begins)
-          (subst (λ (owners : List ℕ). IsPlanOf c.args.call.now.program.now.files.graph c.args.entry owners c.in_ok-plan.plan) c.deref.ensures.value c.in_ok-plan.ensures);
+          subst (λ (asked : Bool). IsPlanAsked asked c.args.call.now.program.now.files.graph p.entry c.in_ok-reached.reached.list.items c.in_ok-plan.plan) (sym w.in_standard_order)
+          (subst (λ (entry : ℕ). IsPlanAsked c.args.call.now.config.now.in_standard_order c.args.call.now.program.now.files.graph entry c.in_ok-reached.reached.list.items c.in_ok-plan.plan) (sym w.begins)
+          (subst (λ (list : List ℕ). IsPlanAsked c.args.call.now.config.now.in_standard_order c.args.call.now.program.now.files.graph c.args.entry list c.in_ok-plan.plan) c.deref.ensures.value c.in_ok-plan.ensures));
     }

@@ -15,7 +15,8 @@ use Rattle.bundler_entry.proofs.source.source_of.Goals as goal
 pub tables_in-requires : goal.tables_in-requires
 tables_in-requires c = record {
   table = subst (λ xs. IsDenotationTable BySymbol Es (map item_of xs) c.in_ok-named.named.names) (c.as_slice.ensures.value ∙ sym c.as_slice-2.ensures.value) c.in_ok-named.ensures.names;
-  faultless = (c.requires.0, subst (IsFaultless c.requires.0) (sym (ap (map item_of) c.as_slice-2.ensures.value ∙ c.in_ok-pieces.ensures)) c.requires.1);
+  faultless = (c.requires.faultless.0, subst (IsFaultless c.requires.faultless.0) (sym (ap (map item_of) c.as_slice-2.ensures.value ∙ c.in_ok-pieces.ensures)) c.requires.faultless.1);
+  external = c.requires.external;
 }
 
 pub returns : goal.returns
@@ -23,10 +24,10 @@ returns c = λ p m links there.
     let first = ap (map item_of) c.as_slice.ensures.value ∙ c.in_ok-pieces.ensures in
     let list = ap (map item_of) c.as_slice-2.ensures.value ∙ c.in_ok-pieces.ensures in
     let last = ap (map item_of) c.as_slice-3.ensures.value ∙ c.in_ok-pieces.ensures in
-    read_as p m c.args.config.now c.requires.0 c.args.loaded.now _ links there refl refl
+    read_as p m c.args.config.now c.requires.faultless.0 c.args.loaded.now _ links there refl refl
     (subst (λ xs. IsDenotationTable BySymbol Es xs c.in_ok-named.named.names) first c.in_ok-named.ensures.names)
     (c.in_ok-named.ensures.doubled ∙ ap (λ xs. option_map place_and_symbol (first_doubled Es xs)) first)
     (λ asked. c.in_ok-common_js.ensures (c.may_be_common_js-is_asked.ensures ∙ asked)
     ∙ ap (λ xs. option_map place_and_symbol (first_doubled Cjs xs)) last)
-    (subst (λ tree. AreTablesOf c.args.config.now c.requires.0 tree c.in_ok-tables.tables) list (c.in_ok-tables.ensures.given c.requires.0))
+    (subst (λ tree. AreTablesOf c.args.config.now c.requires.faultless.0 tree c.in_ok-tables.tables) list (c.in_ok-tables.ensures.given c.requires.faultless.0))
     (c.in_ok-tables.ensures.meta ∙ ap has_import_meta list)

@@ -1,8 +1,6 @@
 -- The tables are those of the list, which has no fault.
-use Rattle.std.proofs.Common.{ap, sym, ◌∙◌, map, string_bytes}
-use Rattle.bundle_syntax.specs.Item.{item_of}
-use Rattle.bundle_link_tables.specs.Sources.{told_external}
-use Rattle.bundle_rules.specs.Entries.{declared_requests}
+use Rattle.std.proofs.Common.{subst, sym}
+use Rattle.bundle_link_tables.specs.Sources.{HasTexts}
 use Rattle.bundler_entry.proofs.source.tables_in.Goals as goal
 
 pub returns-clause-given : goal.returns-clause-given
@@ -13,17 +11,15 @@ returns-clause-given c = λ file.
     let arguments = rw c.in-Ok.is at c.in_ok-tables.ensures.arguments in
     let common_js = rw c.in-Ok.is at c.in_ok-tables.ensures.common_js in
     let uses = rw c.in-Ok.is at c.in_ok-tables.ensures.uses in
-    let external = c.as_slice-external.ensures.value in
+    let sources = rw c.in-Ok.is at c.in_ok-tables.ensures.sources in
     record {
       faultless = judged;
-      requests = λ settings links. requests settings links.0 (links.1 ∙ ap (map string_bytes) (sym external)) c.requires.table;
+      requests = λ settings links. requests settings links.0 (subst (HasTexts c.args.external.now) (sym links.1) c.requires.external) c.requires.table;
       imports = rw c.in-Ok.is at c.in_ok-tables.ensures.imports;
       exports = rw c.in-Ok.is at c.in_ok-tables.ensures.exports;
       stars = rw c.in-Ok.is at c.in_ok-tables.ensures.stars;
-      sources = λ settings links.
-          rw c.in-Ok.is at c.in_ok-tables.ensures.sources
-          ∙ ap (λ texts. map (told_external texts) (declared_requests (map item_of c.args.pieces.now))) (ap (map string_bytes) external ∙ sym links.1);
-      calls = λ settings links. calls settings links.0 (links.1 ∙ ap (map string_bytes) (sym external)) c.requires.table;
+      sources = λ settings links. sources settings.external (subst (HasTexts c.args.external.now) (sym links.1) c.requires.external);
+      calls = λ settings links. calls settings links.0 (subst (HasTexts c.args.external.now) (sym links.1) c.requires.external) c.requires.table;
       script = rw c.in-Ok.is at c.in_ok-tables.ensures.script;
       common_js = common_js c.requires.table;
       awaits = rw c.in-Ok.is at c.in_ok-tables.ensures.awaits;

@@ -1,19 +1,11 @@
-use Rattle.std.proofs.Common.{◌≡◌, ℕ, ◌<◌, Contains, length, subst, arith}
-use Rattle.std.proofs.lemmas.Option.{slice_get_within}
-use Rattle.bundle_link_index.specs.Given.{AddsMissing}
-use Rattle.bundle_link_index.proofs.SearchLemmas.{each_place}
-use Rattle.bundle_link_index.proofs.ReachLemmas.{Reaching-begins, Reaching-steps, Reaching-ends}
+-- What stars lead to is put to nothing.
+use Rattle.std.proofs.Common.{subst}
+use Rattle.bundle_link_index.specs.Reached.{ExtendsReach}
+use Rattle.bundle_link_index.proofs.ReachLemmas.{Reach-of, none-within}
 use Rattle.bundle_link_index.proofs.by_name.LinksByName.reach.Goals as goal
 
-pub loop-done-init : goal.loop-done-init
-loop-done-init c = Reaching-begins c.args.self.now c.args.start c.put_module.new.reach.keys (subst (λ l. AddsMissing l (λ (other : ℕ). other ≡ c.args.start) c.put_module.new.reach.keys) c.new-reach.ensures.empty c.in_ok-put_module.ensures)
-
-pub loop-done-preserved : goal.loop-done-preserved
-loop-done-preserved c =
-    let old = c.loop-done.reach.keys in
-    let new = c.put_modules.new.reach.keys in
-    let inside : c.loop-done.done < length old = omega arith in
-    Reaching-steps c.args.self.now c.args.start old new c.loop-done.done c.number_at-next.result c.loop-done.invariant c.number_at-next.ensures (λ i h. each_place old i (omega arith)) (subst (λ l. AddsMissing old (Contains l) new) c.stars.ensures c.in_ok-put_modules.ensures)
+pub extend_reach-requires : goal.extend_reach-requires
+extend_reach-requires c = none-within c.args.self.now c.args.start c.new-reach.result.keys c.new-reach.ensures.empty
 
 pub returns : goal.returns
-returns c = Reaching-ends c.args.self.now c.args.start c.loop-done.reach.keys c.loop-done.done c.loop-done.invariant (λ i k e. omega (arith, slice_get_within c.loop-done.reach.keys i k e))
+returns c = Reach-of c.args.self.now c.args.start c.extend_reach.new.reach.keys (subst (λ l. ExtendsReach c.args.self.now c.args.start l c.extend_reach.new.reach.keys) c.new-reach.ensures.empty c.in_ok-extend_reach.ensures)

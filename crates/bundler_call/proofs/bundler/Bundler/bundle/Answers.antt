@@ -11,6 +11,7 @@ use Rattle.bundler_call.specs.Kept.{entry_of, kept_of, parties_of, settings_of}
 use Rattle.bundler_call.specs.Linking.{IsNumberedOn, IsRefusalOfEntries}
 use Rattle.bundler_call.proofs.Sources.{all_finished, along, grows_along_entries, all_bundled_as, refusal_as}
 use Rattle.bundler_call.proofs.Leading.{answers_none, bundled_headline, completed_stops, empty_headline, refused_headline, refused_linking, some_entry, IsRefusedBy}
+use Rattle.bundler_call.proofs.Calls.{with_call}
 use Rattle.bundler_call.proofs.Growing.{handed_on}
 use Rattle.bundler_call.proofs.Unasked.{completes_beside, refused_beside}
 use Rattle.bundler_call.proofs.bundler.Bundler.bundle.Goals as goal
@@ -115,3 +116,20 @@ returns-clause-headline g c =
     (all_bundled_as may_load may_fail_load may_resolve may_fail_resolve _ _ settings new c.args.entries.items c.in_ok-finished_bundles.field-0.items
     (all_finished c.args.self.now.config _ new c.args.entries.items c.in_ok-merged.merged.items c.in_ok-finished_bundles.field-0.items (c.in_ok-merged.ensures.bundles c.in_ok-list.ensures.loaded
     (subst (λ xs. AllZip (IsNumberedOn new c.in_ok-list.list) xs c.in_ok-list.ids.items) c.as_slice.ensures.value c.in_ok-list.ensures.numbered)) c.in_ok-finished_bundles.ensures)))
+
+-- Many calls.
+
+pub returns-then-is_empty-clause-calls : goal.returns-then-is_empty-clause-calls
+returns-then-is_empty-clause-calls g c = λ first calls before. with_call (returns-then-is_empty-clause-headline g c) before
+
+pub returns-in_err-list-clause-calls : goal.returns-in_err-list-clause-calls
+returns-in_err-list-clause-calls g c = λ first calls before. with_call (returns-in_err-list-clause-headline g c) before
+
+pub returns-in_err-merged-clause-calls : goal.returns-in_err-merged-clause-calls
+returns-in_err-merged-clause-calls g c = λ first calls before. with_call (returns-in_err-merged-clause-headline g c) before
+
+pub returns-in_err-finished_bundles-clause-calls : goal.returns-in_err-finished_bundles-clause-calls
+returns-in_err-finished_bundles-clause-calls g c = λ first calls before. with_call (returns-in_err-finished_bundles-clause-headline g c) before
+
+pub returns-clause-calls : goal.returns-clause-calls
+returns-clause-calls g c = λ first calls before. with_call (returns-clause-headline g c) before

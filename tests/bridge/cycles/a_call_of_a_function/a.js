@@ -1,0 +1,2 @@
+import { g } from './main.js';
+g();

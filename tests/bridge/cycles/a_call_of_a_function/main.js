@@ -1,0 +1,3 @@
+import './a.js';
+console.log('m');
+export function g() { console.log('g'); }

@@ -1,0 +1,3 @@
+import { k } from './main.js';
+export function f() { k; }
+console.log('a');

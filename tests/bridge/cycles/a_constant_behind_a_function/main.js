@@ -1,0 +1,3 @@
+import { f } from './a.js';
+console.log('m');
+export const k = 1;

@@ -1,0 +1,3 @@
+import { v } from './main.js';
+if (typeof globalThis.done !== 'undefined') throw new Error('main ran before a');
+export const get = () => v;

@@ -1,0 +1,4 @@
+import { get } from './a.js';
+globalThis.done = true;
+export const v = 1;
+console.log(get());

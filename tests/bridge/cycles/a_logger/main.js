@@ -1,0 +1,4 @@
+import { logger } from './log.js';
+logger.init();
+export const level = settings.level;
+logger.log('ready');

@@ -1,0 +1,3 @@
+import * as a from './a.js';
+export function f() { return a['y']; }
+console.log(f());

@@ -1,0 +1,3 @@
+import { register } from './main.js';
+export class P {}
+register(P);

@@ -1,0 +1,4 @@
+import { f } from './main.js';
+function a() { return f; }
+function b() { return f; }
+export var y = [b];

@@ -1,0 +1,3 @@
+import { y } from './m1.js';
+export const f = y;
+console.log(typeof f);

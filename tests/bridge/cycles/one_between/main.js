@@ -1,0 +1,3 @@
+import './a.js';
+import './x.js';
+console.log('main');

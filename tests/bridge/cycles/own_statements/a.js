@@ -1,0 +1,2 @@
+import { k } from './main.js';
+export function f() { console.log('f'); () => k; }

@@ -1,0 +1,3 @@
+import { f } from './a.js';
+f();
+export const k = (console.log('k'), 1);
