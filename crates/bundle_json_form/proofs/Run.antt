@@ -87,20 +87,20 @@ rest_in-each s.List n them more avoids fits = after_all_in-each n them more avoi
 rest_in-each s.Places n them more avoids fits = after_all_in-each n them more avoids
 
 -- the values of a node's children, field by field
-with_children-all : (fs : List Field) (inside : Fields) (members : Members) → Distinct fs → AreLaidOut fs inside → with_children fs (all_children inside) members ≡ with_fields fs inside members
-with_children-all [] no_fields members distinct laid = refl
-with_children-all [] (in_field n them rest) members distinct laid = absurd laid
-with_children-all (f ∷ fs) no_fields members distinct laid = absurd laid
-with_children-all (f ∷ fs) (in_field n them rest) members distinct laid =
+with_children-all : (fs : List Field) (inside : Fields) (held : Members) → Distinct fs → AreLaidOut fs inside → with_children fs (all_children inside) held ≡ with_fields fs inside held
+with_children-all [] no_fields held distinct laid = refl
+with_children-all [] (in_field n them rest) held distinct laid = absurd laid
+with_children-all (f ∷ fs) no_fields held distinct laid = absurd laid
+with_children-all (f ∷ fs) (in_field n them rest) held distinct laid =
     let same = laid.0 in
     let avoids : Avoids f.number (all_children rest) = avoids_all f.number fs rest distinct.0 laid.3 in
     let value : value_in f.shape f.number (each_child n them ++ all_children rest) ≡ in_shape f.shape (each_written them)
     = ap (λ x. value_in f.shape f.number (each_child x them ++ all_children rest)) same ∙ value_in-each f.shape f.number them (all_children rest) avoids in
     let left : rest_in f.shape f.number (each_child n them ++ all_children rest) ≡ all_children rest
     = ap (λ x. rest_in f.shape f.number (each_child x them ++ all_children rest)) same ∙ rest_in-each f.shape f.number them (all_children rest) avoids laid.1 in
-    ap (λ cs. with_children fs cs (put f.key (value_in f.shape f.number (each_child n them ++ all_children rest)) members)) left
-    ∙ ap (λ v. with_children fs (all_children rest) (put f.key v members)) value
-    ∙ with_children-all fs rest (put f.key (in_shape f.shape (each_written them)) members) distinct.1 laid.3
+    ap (λ cs. with_children fs cs (put f.key (value_in f.shape f.number (each_child n them ++ all_children rest)) held)) left
+    ∙ ap (λ v. with_children fs (all_children rest) (put f.key v held)) value
+    ∙ with_children-all fs rest (put f.key (in_shape f.shape (each_written them)) held) distinct.1 laid.3
 
 node_form-written : (head : Head) (inside : Fields) → IsLaidOut (node head inside) → node_form head (all_children inside) ≡ written (node head inside)
 node_form-written head inside laid = ap object (with_children-all (node_fields head) inside _ (distinct head) laid)

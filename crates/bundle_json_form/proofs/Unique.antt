@@ -139,9 +139,9 @@ not_empty (x ∷ xs) some e = let h : length (frames xs ++ frame_of x ∷ []) �
     snoc_some [] f h = cc
     snoc_some (x ∷ xs) f h = cc
 
-closed : (top : Frame) (below : List Frame) (more : List Item) → (below ≡ [] → ⊥) → run (top ∷ below) (Close ∷ more) ≡ run (with_child (top.field, node_form top.head top.children) below) more
-closed top [] more some = absurd (some refl)
-closed top (next ∷ below) more some = refl
+closed : (frame : Frame) (below : List Frame) (more : List Item) → (below ≡ [] → ⊥) → run (frame ∷ below) (Close ∷ more) ≡ run (with_child (frame.field, node_form frame.head frame.children) below) more
+closed frame [] more some = absurd (some refl)
+closed frame (next ∷ below) more some = refl
 
 pub close_step : (before below after : List OpenNode) (top : OpenNode) (pieces : List Piece) (i : ℕ) (piece : Piece) (value whole : Data)
     → i < length pieces → piece ≡ get_or pieces i piece → piece ≡ p.Close → before ≡ below ++ top ∷ [] → (length below ≡ 0 → ⊥)

@@ -36,7 +36,7 @@ use Rattle.bundle_link_index.proofs.ProgramLemmas.{got}
 use Rattle.bundle_link_index.specs.Numbered.{HasNoDoubles}
 use Rattle.bundle_link_index.specs.Programs.{IsTableOf}
 use Rattle.bundle_link_index.specs.Said.{HasEachOnce}
-use Rattle.bundle_link_targets.specs.Meant.{AreModules, DeclaresDefaultOnce, IsModuleTree}
+use Rattle.bundle_link_targets.specs.Meant.{AreModules, IsModuleTree}
 use Rattle.bundle_link_targets.specs.Judged.{fault_says}
 use Rattle.bundle_link_targets.specs.declared.target.LinkFault.{LinkFault}
 use Rattle.bundle_link_targets.proofs.StageLemmas.{map_at as mapped}
@@ -50,7 +50,7 @@ use Rattle.bundle_link.proofs.NumberLemmas.{at-place, once-same, place-there}
 use Rattle.bundle_link.specs.declared.module.NumberedModule.{NumberedModule}
 use Rattle.bundle_link.proofs.NumberedModuleLemmas.{beside, led_beside, no_export, zip_left}
 use Rattle.bundle_link.specs.Numbered
-use Rattle.bundle_link.specs.Programs.{AreTransformedOf, IsLinkerOf, module_numbers, AreModulesFaultless, HasTables}
+use Rattle.bundle_link.specs.Programs.{AreTransformedOf, IsLinkerOf, IsSoundLinkerOf, module_numbers, AreModulesFaultless, HasTables}
 use Rattle.bundle_link.specs.declared.link.Linker.{Linker}
 use Rattle.bundle_link.specs.declared.transformed.TransformedModule.{TransformedModule}
 use Rattle.bundle_link.specs.declared.tables.ExportEntry.{ExportEntry}
@@ -79,8 +79,8 @@ trees_of p modules config entry w m = by (module_place (module_numbers modules) 
         subst IsModuleTree (sym (ap (tree_of p) (sym its.2) ∙ (w.each i its.0 its.1).tree)) (is-module-tree its.0.tree.now)
 
 -- and the program is one of modules, where none declares `default` twice
-pub are_modules : (p : Program) (linker : Linker) → IsLinkerOf p linker → DeclaresDefaultOnce p → AreModules p
-are_modules p linker w once = record { trees = w.trees; once = once }
+pub are_modules : (p : Program) (linker : Linker) → IsSoundLinkerOf p linker → AreModules p
+are_modules p linker w = record { trees = w.of.trees; once = w.once }
 
 module _ (p : Program) (linker : Linker) (w : IsLinkerOf p linker) where
   -- no fault is told: none is there

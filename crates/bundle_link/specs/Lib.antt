@@ -12,6 +12,7 @@ pub mod Judged
 pub mod Nested
 pub mod Default
 pub mod Owned
+pub mod Held
 pub mod Programs
 pub mod Read
 pub mod Refusals

@@ -1,9 +1,11 @@
 -- When modules that a linker is handed are those of a program.
-use Rattle.std.specs.Prelude.{◌≡◌, ℕ, Bool, true, false, List, [], Some, Contains, map, slice_get}
+use Rattle.std.specs.Prelude.{◌≡◌, ◌⊎◌, ℕ, Bool, true, false, List, [], Some, Contains, map, slice_get, take}
 use Rattle.bundle_tree_names.specs.FileName.{name_of}
 use Rattle.bundle_tree_names.specs.declared.config.Config.{Config}
 use Rattle.bundle_tree_names.specs.declared.config.ModuleType.{ModuleType}
 use Rattle.bundle_tree_names.specs.declared.config.ModuleType.TheVariants.{Es, Iife}
+use Rattle.bundle_tree_names.specs.declared.error.Error.{Error}
+use Rattle.bundle_tree_names.specs.declared.error.Error.TheVariants.{OutOfMemory}
 use Rattle.bundle_tree_listed.specs.Tree.{module_items}
 use Rattle.bundle_link_tables.specs.declared.table.Tables.{Tables}
 use Rattle.bundle_rules.specs.Faults.{IsFaultless}
@@ -13,9 +15,9 @@ use Rattle.bundle_link_index.specs.Numbered.{HasNoDoubles}
 use Rattle.bundle_link.specs.Alike.{IsModuleAt}
 use Rattle.bundle_link.specs.Leads.{led}
 use Rattle.bundle_link.specs.Linked.{IsLinkedOf}
-use Rattle.bundle_link_targets.specs.Meant.{IsModuleTree}
+use Rattle.bundle_link_targets.specs.Meant.{DeclaresDefaultOnce, IsModuleTree}
 use Rattle.bundle_link.specs.Read.{AreTablesOf}
-use Rattle.bundle_link.specs.Refusals.{Links}
+use Rattle.bundle_link.specs.Refusals.{IsTreeRefusal, Links}
 use Rattle.bundle_link.specs.declared.link.Linker.{Linker}
 use Rattle.bundle_link.specs.declared.transformed.TransformedModule.{TransformedModule}
 
@@ -54,6 +56,18 @@ HasTables config its tables = AreTablesOf config (name_of its.file_name) (module
 abbrev pub AreModulesFaultless : List TransformedModule → Type 0
 AreModulesFaultless modules = (its : TransformedModule) → Contains modules its → IsFaultless (name_of its.file_name) (module_items 0 its.tree.now)
 
+-- the refusal tells of the first fault of a module's tree, where no module in front of it has one
+pub record HasFirstFaulty (modules : List TransformedModule) (error : Error) : Type 0 where
+  pub place : ℕ
+  pub its : TransformedModule
+  pub there : slice_get modules place ≡ Some its
+  pub told : IsTreeRefusal (name_of its.file_name) (module_items 0 its.tree.now) error
+  pub before : AreModulesFaultless (take place modules)
+
+-- it does so, or is for memory
+abbrev pub IsRefusalOfFirst : List TransformedModule → Error → Type 0
+IsRefusalOfFirst modules error = (error ≡ OutOfMemory) ⊎ HasFirstFaulty modules error
+
 -- what the linker tells is of the program, whose trees are those of modules; its modules and settings are those of the program, none of them has a fault by itself, they stand at the places of their numbers, and their files are those of the program
 pub record IsLinkerOf (p : Program) (linker : Linker) : Type 0 where
   pub modules : AreTransformedOf p linker.modules.items linker.config linker.entry
@@ -64,3 +78,8 @@ pub record IsLinkerOf (p : Program) (linker : Linker) : Type 0 where
   pub files : (place m : ℕ) →
       IsModuleAt linker.linked.ids.keys m place →
       (its : TransformedModule) × (slice_get linker.modules.items place ≡ Some its) × (file_of p m ≡ Some (name_of its.file_name))
+
+-- the same, where no module has a default without a name beside an import that binds `default`
+pub record IsSoundLinkerOf (p : Program) (linker : Linker) : Type 0 where
+  pub of : IsLinkerOf p linker
+  pub once : DeclaresDefaultOnce p

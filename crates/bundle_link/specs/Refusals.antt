@@ -1,5 +1,5 @@
 -- Why the table of a module is not given, and why modules are not linked.
-use Rattle.std.specs.Prelude.{◌≡◌, ◌⊎◌, IfSome, List, Contains, map, string_bytes}
+use Rattle.std.specs.Prelude.{◌≡◌, IfSome, List, Contains, map, string_bytes}
 use Rattle.std.specs.Borrow.{Bor}
 use Rattle.indexmap.specs.IndexSet.{IndexSet}
 use Rattle.bundle_tree_names.specs.FileName.{Name, name_of}
@@ -7,7 +7,6 @@ use Rattle.bundle_tree_names.specs.declared.config.Config.{Config}
 use Rattle.bundle_tree_names.specs.declared.error.Error.{Error}
 use Rattle.bundle_tree_names.specs.declared.error.Error.TheVariants as e
 use Rattle.bundle_syntax.specs.Item.{Item}
-use Rattle.bundle_tree_listed.specs.Tree.{module_items}
 use Rattle.bundle_rules.specs.Entries.{Settings}
 use Rattle.bundle_rules.specs.Faults.{fault_of, IsFirstTreeFault}
 use Rattle.bundle_rules.specs.Nodes.{Text}
@@ -40,10 +39,6 @@ IsLinkRefusal files (e.AwaitInCommonJs its) = Contains files (name_of its)
 IsLinkRefusal files (e.ExternalUnderIife its specifier) = Contains files (name_of its)
 IsLinkRefusal files (e.ArgumentsUnderIife its) = Contains files (name_of its)
 IsLinkRefusal files _ = ⊥
-
--- the refusal is for memory, or a tree of these modules has a fault by itself
-abbrev pub IsRefusalOfOne : List TransformedModule → Error → Type 0
-IsRefusalOfOne modules error = (error ≡ e.OutOfMemory) ⊎ ((m : TransformedModule) × Contains modules m × IsTreeRefusal (name_of m.file_name) (module_items 0 m.tree.now) error)
 
 -- the files of modules
 abbrev pub module_files : List TransformedModule → List Name

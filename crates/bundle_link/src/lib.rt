@@ -7,6 +7,7 @@ pub mod files;
 pub mod judging;
 pub mod link;
 pub mod linked;
+pub mod merging;
 pub mod module;
 pub mod reached;
 pub mod tables;

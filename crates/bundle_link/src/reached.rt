@@ -5,6 +5,7 @@ ghost use Rattle.std.specs.List.{AllZip};
 ghost use Rattle.std.specs.BTreeMap.{get_by_text};
 ghost use Rattle.bundle_rules.specs.Nodes.{Text, numbers_once};
 ghost use Rattle.bundle_rules.specs.Program.{Program};
+ghost use Rattle.bundle_order_graph.specs.Order.{IsOrder};
 ghost use Rattle.bundle_link.specs.Leads.{module_place, last_told};
 ghost use Rattle.bundle_link.specs.Files.{AreNotedOf};
 ghost use Rattle.bundle_link.specs.Reached.{IsReachedOf, deps_at, LeadsBy};
@@ -29,7 +30,8 @@ pub struct Reached {
 
 /// The modules that an entry reaches.
 pub fn reached_from(alloc: Global, files: &Files, entry: ModuleId) -> Result<Reached, AllocError>
-    ensures { IfOk result (λ reached.
+    ensures list { IfOk result (λ reached. IsOrder files.now.graph entry reached.list.items) }
+    ensures reached { IfOk result (λ reached.
         (p : Program) →
         AreNotedOf p files.now →
         p.entry ≡ entry →

@@ -1,6 +1,6 @@
 -- What is made of the modules of a program by their places is merged right for the program, with the contexts that
 -- its modules have, and the contexts that stand in it are below each number that those of the bundle are below.
-use Rattle.std.proofs.Common.{◌≡◌, ◌<◌, ℕ, zero, Bool, List, [], Option, length, map, refl}
+use Rattle.std.proofs.Common.{◌≡◌, ◌<◌, ℕ, zero, Bool, List, [], Option, length, map, refl, arith}
 use Rattle.bundle_syntax.specs.Item.{Item}
 use Rattle.bundle_order_graph.specs.Modules.{Modules}
 use Rattle.bundle_order_sort.specs.Plan.{IsPlanAsked}
@@ -32,9 +32,9 @@ use Rattle.bundle_merge.specs.Standing.{HasContextsBelow}
 use Rattle.bundle_merge.proofs.Standing.{contexts-below}
 
 -- what a merge owes is that the tree is merged right
-pub merged-owed : (local : ℕ → ℕ) (p : Program) (hooks : Hooks) (plan : List Cause)
-    (tree : List Item) → IsMergedBy local p hooks plan tree → IsMerged (λ x. x) local p hooks tree
-merged-owed local p hooks plan tree its =
+pub merged-owed : (first : ℕ) (local : ℕ → ℕ) (p : Program) (hooks : Hooks) (plan : List Cause)
+    (tree : List Item) → IsMergedBy first local p hooks plan tree → IsMerged (λ x. x) local p hooks tree
+merged-owed first local p hooks plan tree its =
     let still = its.whole.ready.still in
     record {
       is_bundle = record {
@@ -70,11 +70,11 @@ module _ (p q : Program) (ids : List ℕ) (g : Modules) (places : IsByPlaces p q
       (made-alone q hooks places_of context answers its apart) in
       let owed =
       made-by q hooks places_of context answers (plan_of d orders) items its apart laid.alone
-      laid.due laid.once (λ k. context (TopOf k)) (λ k reached. refl) [] (laid.laid []) in
-      merged-owed local p hooks (map (cause_at ids) (plan_of d orders)) (joined_items items)
+      laid.due laid.once (λ k. context (TopOf k)) (λ k reached. refl) [] (laid.laid []) 0 (λ a its_holder no_top. omega arith) in
+      merged-owed 0 local p hooks (map (cause_at ids) (plan_of d orders)) (joined_items items)
       (merged-by q p (λ k m. IsModuleAt ids m k) (id_at ids) (λ m. index_of m ids)
       (places-renamed p q ids moved) hooks (plan_of d orders) (joined_items items)
-      (λ k. context (TopOf k)) local owed.owed owed.reached locals)
+      0 (λ k. context (TopOf k)) local owed.owed owed.reached locals)
 
   -- what stands in it is below what the contexts of the bundle are below
   pub made-below : (orders : List (List ℕ)) (items : List (List Item)) →

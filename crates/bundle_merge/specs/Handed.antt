@@ -24,6 +24,7 @@ use Rattle.bundle_merge.specs.Placed.{AreModulesRight, HasFront, IsModuleRead}
 use Rattle.bundle_tree_ast.specs.declared.module.Module.{Module}
 use Rattle.bundle_link_index.specs.declared.target.LinkModule.{LinkModule}
 use Rattle.bundle_link.specs.Refusals.{Links}
+use Rattle.bundle_link.specs.Held.{config_of, entry_of, graph_of, list_of}
 use Rattle.bundle_link.specs.declared.link.Linker.{Linker}
 use Rattle.bundle_merge_names.specs.declared.part.BundleModule.{BundleModule}
 use Rattle.bundle_merge_items.specs.declared.merge.MergedModule.{MergedModule}
@@ -97,27 +98,27 @@ pub record AreObjectsApart (list : List ℕ) (local : ℕ → ℕ) (next : ℕ)
 -- context, and in front of its own items stands what the hooks may have answered
 pub record AreReadIn (p : Program) (hooks : Hooks) (linker : Linker) (local : ℕ → ℕ) (next : ℕ)
     (reads : List ReadModule) : Type 0 where
-  pub links : Links linker.config p.settings
+  pub links : Links (config_of linker) p.settings
   pub by_needs : p.settings.in_standard_order ≡ false
-  pub begins : p.entry ≡ linker.entry
-  pub graph : (m : ℕ) → deps linker.linked.graph m ≡ requested p m
-  pub right : AreModulesRight p linker.linked.list.items
+  pub begins : p.entry ≡ entry_of linker
+  pub graph : (m : ℕ) → deps (graph_of linker) m ≡ requested p m
+  pub right : AreModulesRight p (list_of linker)
   pub answers : ℕ → Option HookAnswer
   pub fronts : (k m : ℕ) (read : ReadModule) (part : BundleModule) →
-      slice_get linker.linked.list.items k ≡ Some m →
+      slice_get (list_of linker) k ≡ Some m →
       slice_get reads k ≡ Some read →
       IsPartRead read part →
       HasFront p hooks m part (answers k)
-  pub past : (k : ℕ) → slice_get linker.linked.list.items k ≡ None → answers k ≡ None
-  pub objects : AreObjectsApart linker.linked.list.items local next answers
-  pub long : length reads ≡ length linker.linked.list.items
+  pub past : (k : ℕ) → slice_get (list_of linker) k ≡ None → answers k ≡ None
+  pub objects : AreObjectsApart (list_of linker) local next answers
+  pub long : length reads ≡ length (list_of linker)
   pub each : (k m : ℕ) (read : ReadModule) (part : BundleModule) →
-      slice_get linker.linked.list.items k ≡ Some m →
+      slice_get (list_of linker) k ≡ Some m →
       slice_get reads k ≡ Some read →
       IsPartRead read part →
-      IsModuleRead p linker.linked.list.items m part
+      IsModuleRead p (list_of linker) m part
   pub locals : (k m : ℕ) (read : ReadModule) (part : BundleModule) →
-      slice_get linker.linked.list.items k ≡ Some m →
+      slice_get (list_of linker) k ≡ Some m →
       slice_get reads k ≡ Some read →
       IsPartRead read part →
       part.local ≡ local m
@@ -131,10 +132,10 @@ pub record IsLinkedRead (linker : Linker) (reads : List ReadModule)
   pub links : List LinkModule
   pub each : AllZip IsLinkRead reads links
   pub linked : (p : Program) →
-      IsLinkProgram p links (numbers_below (length links)) (length links - 1) linker.config.require →
+      IsLinkProgram p links (numbers_below (length links)) (length links - 1) (config_of linker).require →
       IsLinkingOf p linking
   pub handed : (p : Program) →
-      IsLinkProgram p links (numbers_below (length links)) (length links - 1) linker.config.require →
+      IsLinkProgram p links (numbers_below (length links)) (length links - 1) (config_of linker).require →
       HandsOver p (numbers_below (length links)) linking
 
 -- what is merged: the modules that were read, for which the hook is not asked, as they are linked, their blocks, and

@@ -3,7 +3,6 @@
 use Rattle.std.specs.Prelude.{◌≡◌, ℕ, List, [], ◌∷◌, Option, Some, None, Contains, drop, nat_eq, option_map, slice_get, take, if◌then◌else◌}
 use Rattle.std.specs.List.{flat_map}
 use Rattle.std.specs.BTreeMap.{get_by_text}
-use Rattle.indexmap.specs.IndexSet.{index_of_by}
 use Rattle.bundle_tree_ast.specs.declared.module.Module.{Module}
 use Rattle.bundle_tree_ast.specs.declared.module.ModuleItem.{ModuleItem}
 use Rattle.bundle_tree_names.specs.FileName.{name_of}
@@ -23,6 +22,7 @@ use Rattle.bundle_scope_denote.specs.Listed.{IsDenotationTable}
 use Rattle.bundle_link.specs.Leads.{module_place, last_told}
 use Rattle.bundle_link.specs.Programs.{IsLinkerOf}
 use Rattle.bundle_link.specs.Read.{AreTablesOf}
+use Rattle.bundle_link.specs.Held.{config_of, modules_of, place_of}
 use Rattle.bundle_link.specs.declared.link.Linker.{Linker}
 use Rattle.bundle_link.specs.declared.transformed.TransformedModule.{TransformedModule}
 use Rattle.bundle_merge_names.specs.declared.part.BundleModule.{BundleModule}
@@ -69,7 +69,7 @@ pub record IsReadModuleOf (linker : Linker) (known : TransformedModule) (ids : L
       IsLinkerOf p linker →
       HasKind p known.id kind →
       IsDenotationTable BySymbol kind (own_list items) part.denotations.now
-  pub tables : AreTablesOf linker.config (name_of known.file_name) (own_list items) part.tables.now
+  pub tables : AreTablesOf (config_of linker) (name_of known.file_name) (own_list items) part.tables.now
   pub meta : part.tables.now.has_import_meta ≡ has_import_meta (own_list items)
   pub leads : (s : Text) →
       get_by_text part.leads.now s ≡ last_told (module_place ids) known.deps.items s
@@ -78,8 +78,8 @@ pub record IsReadModuleOf (linker : Linker) (known : TransformedModule) (ids : L
 -- a linker has the module under this number
 pub record IsModuleKnown (linker : Linker) (m : ℕ) (known : TransformedModule) : Type 0 where
   pub place : ℕ
-  pub numbered : index_of_by (nat_eq m) linker.linked.ids ≡ Some place
-  pub there : slice_get linker.modules.items place ≡ Some known
+  pub numbered : place_of linker m ≡ Some place
+  pub there : slice_get (modules_of linker) place ≡ Some known
 
 -- all modules of a list are there
 abbrev pub AreAllKnown : Linker → List ℕ → Type 0

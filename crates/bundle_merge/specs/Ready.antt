@@ -10,6 +10,7 @@ use Rattle.bundle_rules.specs.Bundle.{Hooks}
 use Rattle.bundle_rules.specs.Merged.{Contexts}
 use Rattle.bundle_rules.specs.Program.{Program}
 use Rattle.bundle_link.specs.Programs.{IsLinkerOf}
+use Rattle.bundle_link.specs.Held.{modules_of}
 use Rattle.bundle_link.specs.declared.link.Linker.{Linker}
 use Rattle.bundle_link.specs.declared.transformed.TransformedModule.{TransformedModule}
 use Rattle.bundle_merge_theory.specs.made.Given.{HookAnswer}
@@ -46,7 +47,7 @@ pub record IsMergeable (p : Program) (contexts : ℕ → Contexts) (linker : Lin
   pub by_needs : p.settings.in_standard_order ≡ false
   pub leads : LeadsAll p
   pub locals : (its : TransformedModule) →
-      Contains linker.modules.items its →
+      Contains (modules_of linker) its →
       (contexts its.id).local ≡ its.local_ctxt
 
 -- what is merged of a bundle, as the merge of bundles promises it

@@ -9,6 +9,7 @@ ghost use Rattle.bundle_rules.specs.Merged.{Contexts as ModuleContexts, IsMerged
 ghost use Rattle.bundle_rules.specs.Nodes.{numbers_once};
 ghost use Rattle.bundle_rules.specs.Parts as Parts;
 ghost use Rattle.bundle_rules.specs.Program.{Program};
+ghost use Rattle.bundle_link.specs.Held.{entry_of, list_of, modules_of};
 ghost use Rattle.bundle_link.specs.declared.transformed.TransformedModule as transformed;
 ghost use Rattle.bundle_scope.specs.Contexts.{HasGiven};
 ghost use Rattle.bundle_scope.specs.Refusals.{IsUsedUp};
@@ -25,6 +26,7 @@ ghost use Rattle.bundle_merge.specs.Refusals.{HasOwnFault, HasPreparedFault, IsL
 use crate::prepared::{copies_of, places_of};
 use crate::read::{ReadModule, read_module};
 use bundle_link::link::{Linker, TransformedModule};
+use bundle_link::merging;
 use bundle_link_targets::{LinkModule, Linking};
 use bundle_merge_items::{
     BundleInput, BundleModule, FreshContexts as Numbers, MergeError, MergedModule, merge_modules,
@@ -57,7 +59,7 @@ pub fn merge_into_entry<'a>(
     contexts: &mut Contexts,
 ) -> Result<Modules, Error>
     ensures merged { IfOk result (λ merged.
-        (items : List (List Item)) × (merged ≡ Parts.parts_of linker.now.entry items)) }
+        (items : List (List Item)) × (merged ≡ Parts.parts_of (entry_of linker.now) items)) }
     ensures bundle { IfOk result (λ merged.
         (p : Program) (given : Answering) (its : ℕ → ModuleContexts) →
         IsMergeable p its linker.now →
@@ -69,7 +71,7 @@ pub fn merge_into_entry<'a>(
         IsMergeable p its linker.now →
         IsPrepared p (hooks_by given) its contexts.old.next prepared.now →
         HasContextsBelow contexts.new.next (Parts.body_of merged)) }
-    ensures refused { IfErr result (MayRefuseMerge contexts.old.file linker.now.modules.items) }
+    ensures refused { IfErr result (MayRefuseMerge contexts.old.file (modules_of linker.now)) }
     ensures told { IfErr result (λ refusal. (p : Program) (its : ℕ → ModuleContexts) →
         IsMergeable p its linker.now →
         IsLack contexts.old.file refusal
@@ -81,9 +83,9 @@ pub fn merge_into_entry<'a>(
         MayLack p (hooks_by given) contexts.old.file contexts.old.next refusal) }
     ensures unchanged { OnErr result (contexts.new ≡ contexts.old) }
 {
-    let places = places_of(alloc, linker.list())?;
+    let places = places_of(alloc, merging::list(linker))?;
     let (module, next) = joined(alloc, linker, &places, prepared, contexts)?;
-    let merged = Modules::from(alloc, linker.entry(), module)?;
+    let merged = Modules::from(alloc, merging::entry(linker), module)?;
     contexts.go_to(next);
     Ok(merged)
 }
@@ -101,25 +103,25 @@ fn joined<'a>(
         (p : Program) (given : Answering) (its : ℕ → ModuleContexts) →
         IsMergeable p its linker.now →
         IsPrepared p (hooks_by given) its contexts.now.next prepared.now →
-        places.now.keys ≡ numbers_once linker.now.linked.list.items →
+        places.now.keys ≡ numbers_once (list_of linker.now) →
         IsMerged (λ x. x) (λ m. (its m).local) p (hooks_by given) (tree.joined_items (module_item_lists made.0))) }
     ensures below { IfOk result (λ made.
         (p : Program) (given : Answering) (its : ℕ → ModuleContexts) →
         IsMergeable p its linker.now →
         IsPrepared p (hooks_by given) its contexts.now.next prepared.now →
-        places.now.keys ≡ numbers_once linker.now.linked.list.items →
+        places.now.keys ≡ numbers_once (list_of linker.now) →
         HasContextsBelow made.1 (tree.joined_items (module_item_lists made.0))) }
-    ensures refused { IfErr result (MayRefuseMerge contexts.now.file linker.now.modules.items) }
+    ensures refused { IfErr result (MayRefuseMerge contexts.now.file (modules_of linker.now)) }
     ensures told { IfErr result (λ refusal. (p : Program) (its : ℕ → ModuleContexts) →
         IsMergeable p its linker.now →
-        places.now.keys ≡ numbers_once linker.now.linked.list.items →
+        places.now.keys ≡ numbers_once (list_of linker.now) →
         IsLack contexts.now.file refusal
         ⊎ HasPreparedFault linker.now (Parts.in_order prepared.now) refusal) }
     ensures lacks { IfErr result (λ refusal.
         (p : Program) (given : Answering) (its : ℕ → ModuleContexts) →
         IsMergeable p its linker.now →
         IsPrepared p (hooks_by given) its contexts.now.next prepared.now →
-        places.now.keys ≡ numbers_once linker.now.linked.list.items →
+        places.now.keys ≡ numbers_once (list_of linker.now) →
         MayLack p (hooks_by given) contexts.now.file contexts.now.next refusal) }
 {
     let copies = copies_of(alloc, places, prepared)?;
@@ -139,31 +141,31 @@ fn joined_of<'a>(
         (p : Program) (given : Answering) (its : ℕ → ModuleContexts) (prepared : Parts.Parts) →
         IsMergeable p its linker.now →
         IsPrepared p (hooks_by given) its contexts.now.next prepared →
-        places.now.keys ≡ linker.now.linked.list.items →
+        places.now.keys ≡ list_of linker.now →
         map module_item_lists copies.now
-        ≡ items_of_each (Parts.in_order prepared) linker.now.linked.list.items →
+        ≡ items_of_each (Parts.in_order prepared) (list_of linker.now) →
         IsMerged (λ x. x) (λ m. (its m).local) p (hooks_by given) (tree.joined_items (module_item_lists made.0))) }
     ensures below { IfOk result (λ made.
         (p : Program) (given : Answering) (its : ℕ → ModuleContexts) (prepared : Parts.Parts) →
         IsMergeable p its linker.now →
         IsPrepared p (hooks_by given) its contexts.now.next prepared →
-        places.now.keys ≡ linker.now.linked.list.items →
+        places.now.keys ≡ list_of linker.now →
         map module_item_lists copies.now
-        ≡ items_of_each (Parts.in_order prepared) linker.now.linked.list.items →
+        ≡ items_of_each (Parts.in_order prepared) (list_of linker.now) →
         HasContextsBelow made.1 (tree.joined_items (module_item_lists made.0))) }
-    ensures refused { IfErr result (MayRefuseMerge contexts.now.file linker.now.modules.items) }
+    ensures refused { IfErr result (MayRefuseMerge contexts.now.file (modules_of linker.now)) }
     ensures told { IfErr result (λ refusal. (p : Program) (its : ℕ → ModuleContexts) →
         IsMergeable p its linker.now →
-        length copies.now ≡ length linker.now.linked.list.items →
+        length copies.now ≡ length (list_of linker.now) →
         IsLack contexts.now.file refusal
-        ⊎ HasOwnFault linker.now linker.now.linked.list.items copies.now refusal) }
+        ⊎ HasOwnFault linker.now (list_of linker.now) copies.now refusal) }
     ensures lacks { IfErr result (λ refusal.
         (p : Program) (given : Answering) (its : ℕ → ModuleContexts) (prepared : Parts.Parts) →
         IsMergeable p its linker.now →
         IsPrepared p (hooks_by given) its contexts.now.next prepared →
-        places.now.keys ≡ linker.now.linked.list.items →
+        places.now.keys ≡ list_of linker.now →
         map module_item_lists copies.now
-        ≡ items_of_each (Parts.in_order prepared) linker.now.linked.list.items →
+        ≡ items_of_each (Parts.in_order prepared) (list_of linker.now) →
         MayLack p (hooks_by given) contexts.now.file contexts.now.next refusal) }
 {
     let reads = read_all(alloc, linker, places, copies)?;
@@ -181,19 +183,19 @@ fn read_all<'a, 'x>(
     places: &IndexSet<ModuleId>,
     copies: &'x [Module],
 ) -> Result<Vec<ReadModule<'x>>, Error>
-    ensures refused { IfErr result (IsMergeRefusal linker.now.modules.items) }
+    ensures refused { IfErr result (IsMergeRefusal (modules_of linker.now)) }
     ensures told { IfErr result (λ refusal.
-        AreAllKnown linker.now linker.now.linked.list.items →
-        length copies.now ≡ length linker.now.linked.list.items →
-        IsRefusalOfRead linker.now linker.now.linked.list.items copies.now refusal) }
+        AreAllKnown linker.now (list_of linker.now) →
+        length copies.now ≡ length (list_of linker.now) →
+        IsRefusalOfRead linker.now (list_of linker.now) copies.now refusal) }
     ensures read { IfOk result (λ reads.
-        AreAllKnown linker.now linker.now.linked.list.items →
-        length copies.now ≡ length linker.now.linked.list.items →
-        AreReadFrom linker.now places.now.keys linker.now.linked.list.items copies.now
+        AreAllKnown linker.now (list_of linker.now) →
+        length copies.now ≡ length (list_of linker.now) →
+        AreReadFrom linker.now places.now.keys (list_of linker.now) copies.now
         (length copies.now) reads.items) }
 {
-    let list = linker.list();
-    let external = linker.externals()?;
+    let list = merging::list(linker);
+    let external = merging::externals(linker)?;
     let mut reads = Vec::new(alloc);
     for (place, module) in copies.iter().enumerate() {
         if let Some(known) = module_at(linker, list, place) {
@@ -209,12 +211,12 @@ fn module_at<'t, 'a>(
     list: &[ModuleId],
     place: usize,
 ) -> Option<&'t TransformedModule<'a>>
-    ensures found { IfSome result (λ its. Contains linker.now.modules.items its.now) }
+    ensures found { IfSome result (λ its. Contains (modules_of linker.now) its.now) }
     ensures known { (m : ℕ) (known : transformed.TransformedModule) →
         slice_get list.now place ≡ Some m → IsModuleKnown linker.now m known →
         option_map (λ its. its.now) result ≡ Some known }
 {
-    linker.module(*list.get(place)?)
+    merging::module(linker, *list.get(place)?)
 }
 
 // What these modules are merged to, with contexts from the next one on.
@@ -238,7 +240,12 @@ fn merged_of<'a, 'x>(
         AreReadIn p (hooks_by given) linker.now local next reads.now →
         MayLackNames p (hooks_by given) next refusal) }
 {
-    let plan = plan_of(alloc, linker.graph(), linker.entry(), linker.list())?;
+    let plan = plan_of(
+        alloc,
+        merging::graph(linker),
+        merging::entry(linker),
+        merging::list(linker),
+    )?;
     let linking = linking_of(alloc, linker, reads)?;
     merged_by(alloc, reads, &linking, &plan.blocks, next)
 }
@@ -252,7 +259,7 @@ fn linking_of<'a, 'x>(
     ensures { IfOk result (IsLinkedRead linker.now reads.now) }
 {
     let modules = link_modules(alloc, reads)?;
-    linker.linking_of(&modules)
+    merging::linking_of(linker, &modules)
 }
 
 // The modules as they are linked.

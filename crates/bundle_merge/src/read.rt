@@ -12,14 +12,15 @@ ghost use Rattle.bundle_rules.specs.Meaning.{HasKind};
 ghost use Rattle.bundle_rules.specs.Program.{Program};
 ghost use Rattle.bundle_rules.specs.Scopes as scopes;
 ghost use Rattle.bundle_scope_denote.specs.Kinds.{kind_as};
+ghost use Rattle.bundle_link.specs.Held.{config_of};
 ghost use Rattle.bundle_link.specs.Programs.{IsLinkerOf};
 ghost use Rattle.bundle_link.specs.Refusals.{HasExternals, IsTreeRefusal};
 ghost use Rattle.bundle_merge_names.specs.declared.part.BundleModule as part;
 ghost use Rattle.bundle_merge.specs.Handed.{IsLinkRead, IsPartRead};
 ghost use Rattle.bundle_merge.specs.Read.{IsReadModuleOf, first_declared, name_held, own_list};
 
-use bundle_link::leads_of;
 use bundle_link::link::{Linker, TransformedModule};
+use bundle_link::{leads_of, merging};
 use bundle_link_tables::Tables;
 use bundle_link_targets::LinkModule;
 use bundle_merge_items::BundleModule;
@@ -93,14 +94,14 @@ pub(crate) fn read_module<'a, 'x>(
     external: &TextSet<&str>,
     tree: &'x Module,
 ) -> Result<ReadModule<'x>, Error>
-    requires { HasExternals external.now linker.now.config }
+    requires { HasExternals external.now (config_of linker.now) }
     ensures refused { IfErr result
         (IsTreeRefusal (name_of known.now.file_name) (own_list tree.now.body.items)) }
     ensures read { IfOk result (λ read. (part : part.BundleModule) → IsPartRead read part →
         IsReadModuleOf linker.now known.now places.now.keys tree.now.body.items part) }
 {
     let own = own_of(alloc, &tree.body)?;
-    let tables = linker.tables_of(&known.file_name, &own.pieces, external)?;
+    let tables = merging::tables_of(linker, &known.file_name, &own.pieces, external)?;
     let kind = kind_of(linker, known.id);
     let names = denotations(alloc, &own.pieces, kind, Reading::BySymbol)?;
     let leads = leads_of(alloc, &known.deps, places)?;

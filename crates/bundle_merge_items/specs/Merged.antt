@@ -1,5 +1,5 @@
 -- The modules of a bundle as one: the items that it is made of.
-use Rattle.std.specs.Prelude.{◌≡◌, ◌<◌, ℕ, nat_eq, Bool, List, ◌++◌, Option, Some, Contains, slice_get}
+use Rattle.std.specs.Prelude.{◌≡◌, ◌<◌, ◌≤◌, ℕ, nat_eq, Bool, List, ◌++◌, Option, Some, Contains, slice_get}
 use Rattle.std.specs.List.{IsDistinct}
 use Rattle.bundle_tree_ast.specs.declared.module.Module.{Module}
 use Rattle.bundle_syntax.specs.Item.{Item}
@@ -10,6 +10,7 @@ use Rattle.bundle_merge_theory.specs.made.Made.{AreMade, IsBlockMade}
 use Rattle.bundle_merge_theory.specs.made.Alone.{IsHolder, TellApart}
 use Rattle.bundle_merge_theory.specs.planned.Blocks.{block_of}
 use Rattle.bundle_merge_theory.specs.planned.Decided.{Decided}
+use Rattle.bundle_merge_names.specs.Bundle.{GetsContext}
 use Rattle.bundle_merge_names.specs.Numbers.{position}
 use Rattle.bundle_merge_names.specs.declared.part.BundleInput.{BundleInput}
 use Rattle.bundle_merge_names.specs.declared.part.BundleModule.{BundleModule}
@@ -31,7 +32,8 @@ pub record AddsBlock (q : Program) (list : List ℕ) (answers : ℕ → Option H
   pub is : module_item_lists new ≡ module_item_lists old ++ placed
 
 -- what is merged is what the modules of a bundle make, where contexts tell apart what has one, each
--- module keeps that of its top, and the next free one is above all
+-- module keeps that of its top, what gets one has it from the first free one on, and the next free
+-- one is above all
 pub record IsMergedOf (q : Program) (list : List ℕ) (answers : ℕ → Option HookAnswer)
     (bundle : BundleInput) (meta : ℕ → Bool) (count : ℕ → ℕ) (merged : MergedModule) : Type 0 where
   pub context : BundleContexts
@@ -40,6 +42,10 @@ pub record IsMergedOf (q : Program) (list : List ℕ) (answers : ℕ → Option 
       slice_get bundle.parts.now m ≡ Some part →
       context (TopOf m) ≡ part.local
   pub below : (a : Holder) → IsHolder q answers a → context a < position merged.contexts
+  pub from : (a : Holder) →
+      IsHolder q answers a →
+      GetsContext answers a →
+      position bundle.contexts ≤ context a
   pub orders : List (List ℕ)
   pub items : List (List Item)
   pub made : AreMade q any_hooks list context answers (decided_of bundle meta count) orders items

@@ -39,7 +39,7 @@ use Rattle.bundle_merge_names.specs.declared.part.Answered.{Answered}
 use Rattle.bundle_merge_names.specs.declared.part.BundleInput.{BundleInput}
 use Rattle.bundle_merge_names.specs.declared.part.BundleModule.{BundleModule}
 use Rattle.bundle_merge_names.specs.Added.{GivesNames}
-use Rattle.bundle_merge_names.specs.Bundle.{AreMetaAnswers, AreBundleParts, AreNamesOf, IsReadAnswer, StandsWritten, answered_items, holder_symbol, its_inside, its_name, list_of_part}
+use Rattle.bundle_merge_names.specs.Bundle.{AreMetaAnswers, AreBundleParts, AreNamesOf, GetsContext, IsReadAnswer, StandsWritten, answered_items, holder_symbol, its_inside, its_name, list_of_part}
 use Rattle.bundle_merge_theory.specs.made.Given.{HookAnswer, Fresh, Written, stands_written, BundleContexts, Holder, TopOf, InsideOf, AnsweredOf, WrittenIn, NameOf, HelperParameter, HelperVariable, context_in_order, numbers_answered, numbers_in}
 use Rattle.bundle_merge_names.specs.Held.{AreLabelContexts}
 use Rattle.bundle_merge_theory.specs.made.Alone.{AddsLabel, IsHolder, added, answered_of, defines, helps, holds_meta, holds_namespace, imports_name, imports_whole, inside_of, loads, parameter, top_of, variable, written_in}
@@ -385,6 +385,14 @@ module _ (p : Program) (list : List ℕ) (answers : ℕ → Option HookAnswer) (
   below a (stands_inside w j n c has is same) = let range = in-range w j n c has in let high = range.1 in let last = adds.later in omega (arith, high, last, same)
   below a (stands_label label ident is there same) = let w = held-from.within label ident there in let high = w.1 in omega (arith, high, same)
 
+  -- what gets a context has one from the next one on
+  from-next : (a : Holder) → Stands p answers bundle names a → GetsContext answers a → first ≤ context a
+  from-next a (stands_written_in j c w (of_name notes properties told is) same) gets = absurd (true≢false (sym (ap stands_written told) ∙ gets.fresh j is))
+  from-next a (stands_written_in j c w (of_inside holder is) same) gets = absurd (gets.unwritten j c is)
+  from-next a (stands_top j part is at same) gets = absurd (gets.no_top j is)
+  from-next a (stands_inside w j n c has is same) gets = let range = in-range w j n c has in let low = range.0 in omega (arith, low, same)
+  from-next a (stands_label label ident is there same) gets = let low = behind label ident there in let later = named.later in omega (arith, low, later, same)
+
   are-names : AreNamesOf p list answers context bundle names
   are-names = record {
     apart = record {
@@ -392,6 +400,7 @@ module _ (p : Program) (list : List ℕ) (answers : ℕ → Option HookAnswer) (
       apart = λ a b holder_a holder_b same. apart a b (stands a holder_a) (stands b holder_b) same;
     };
     below = λ a holder. below a (stands a holder);
+    from = λ a holder gets. from-next a (stands a holder) gets;
     locals = λ j less. let part = there-below bundle.parts.now j less in local j part.0 part.1 ∙ ap (λ c. Some c) (sym (local-top j part.0 part.1));
     tops = local-top;
     scopes = λ j part kind at has_kind. let range = scoped j part at in numbers-are kind (list_of_part part) part.denotations.now ((parts.parts j part at).table kind has_kind) part.local range.from range.to (scopes_in names j) range.has (numbers_in context j)

@@ -40,7 +40,7 @@ use Rattle.bundle_link_index.specs.Says.{target_of}
 use Rattle.bundle_link_index.specs.declared.target.TargetRef.{TargetRef}
 use Rattle.bundle_link_index.specs.Leads.{flagged}
 use Rattle.bundle_merge_theory.specs.made.Alone.{AreTreesSound, IsHolder, added, defines as defines_label, holds_meta as holds_label, answered_of, inside_of, written_in}
-use Rattle.bundle_merge_theory.specs.made.Given.{HookAnswer, Fresh, Written, stands_written, BundleContexts, NameOf, ident_of_label, AreFresh}
+use Rattle.bundle_merge_theory.specs.made.Given.{HookAnswer, Fresh, Written, stands_written, BundleContexts, Holder, NameOf, TopOf, WrittenIn, ident_of_label, AreFresh}
 use Rattle.bundle_merge_theory.specs.planned.Counted.{sum_of}
 use Rattle.bundle_merge_theory.specs.planned.Decided.{numbers_from}
 use Rattle.bundle_merge_names.specs.declared.names.Label.{Label}
@@ -49,7 +49,7 @@ use Rattle.bundle_merge_names.specs.declared.part.Answered.{Answered}
 use Rattle.bundle_merge_names.specs.declared.part.BundleInput.{BundleInput}
 use Rattle.bundle_merge_names.specs.declared.part.BundleModule.{BundleModule}
 use Rattle.bundle_merge_names.specs.Body.{IsModuleReadAs}
-use Rattle.bundle_merge_names.specs.Bundle.{AreMetaAnswers, AreBundleParts, AreNamesOf, IsPartOf, holder_symbol, IsReadAnswer, answered_items, list_of_part, AreWrittenApart, IsWrittenIn, StandsWritten, its_inside, its_name, written_items}
+use Rattle.bundle_merge_names.specs.Bundle.{AreMetaAnswers, AreBundleParts, AreNamesOf, GetsContext, IsPartOf, holder_symbol, IsReadAnswer, answered_items, list_of_part, AreWrittenApart, IsWrittenIn, StandsWritten, its_inside, its_name, written_items}
 use Rattle.bundle_merge_names.specs.Idents.{label_ident, object_ident, ident_by}
 use Rattle.bundle_merge_names.specs.Named.{IsGiven, holder_of}
 use Rattle.bundle_merge_names.proofs.Rising.{AreHolders, are-holders}
@@ -377,4 +377,19 @@ module _ (p : Program) (answers : ℕ → Option HookAnswer) (fresh : AreFresh a
     tops = λ m n ctxt part stands at. absurd (none-stands stands);
     apart = λ m n ctxt stands other. absurd (none-stands stands);
     names = λ m ctxt its notes properties told holder. absurd (fresh m ctxt notes properties told);
+  }
+
+  told-unwritten : (m : ℕ) (answer : Option HookAnswer) → answers m ≡ answer → stands_written answer ≡ false
+  told-unwritten m None told = refl
+  told-unwritten m (Some (Fresh properties)) told = refl
+  told-unwritten m (Some (Written ctxt notes properties)) told = absurd (fresh m ctxt notes properties told)
+
+  -- and all but tops of modules get contexts
+  pub others-get : (a : Holder) → IsHolder p answers a → ((m : ℕ) → a ≡ TopOf m → ⊥) → GetsContext answers a
+  others-get a holder never = record {
+    no_top = never;
+    unwritten = λ m ctxt is.
+        let inside : IsHolder p answers (WrittenIn m ctxt) = subst (IsHolder p answers) is holder in
+        none-stands (its_inside inside);
+    fresh = λ m is. told-unwritten m (answers m) refl;
   }

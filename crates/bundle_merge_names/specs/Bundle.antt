@@ -1,5 +1,5 @@
 -- When what a bundle is made of is that of a program, and its names are right.
-use Rattle.std.specs.Prelude.{◌≡◌, ◌≢◌, ℕ, zero, suc, ◌<◌, ◌↔◌, List, [], ◌∷◌, Option, Some, None, Contains, drop, is_some, length, map, option_map, slice_get, take, unwrap_or, codes, if◌then◌else◌}
+use Rattle.std.specs.Prelude.{◌≡◌, ◌≢◌, ℕ, zero, suc, ◌<◌, ◌≤◌, ◌↔◌, false, List, [], ◌∷◌, Option, Some, None, Contains, drop, is_some, length, map, option_map, slice_get, take, unwrap_or, codes, if◌then◌else◌}
 use Rattle.std.specs.List.{flat_map}
 use Rattle.std.specs.BTreeMap.{get_by_text}
 use Rattle.bundle_order_sort.specs.declared.plan.Block.{Block}
@@ -150,11 +150,22 @@ holder_symbol p list HelperParameter = codes "fn"
 holder_symbol p list HelperVariable = codes "module"
 holder_symbol p list _ = []
 
--- the names of a bundle are those of these contexts, which tell apart what has one; the next free one
--- is above all
+-- something gets a context in a bundle: it is the top of no module, and no name in or of an object
+-- of `import.meta` that is written already, each of which has its own
+pub record GetsContext (answers : ℕ → Option HookAnswer) (a : Holder) : Type 0 where
+  pub no_top : (m : ℕ) → a ≡ TopOf m → ⊥
+  pub unwritten : (m ctxt : ℕ) → a ≡ WrittenIn m ctxt → ⊥
+  pub fresh : (m : ℕ) → a ≡ NameOf (Meta m) → stands_written (answers m) ≡ false
+
+-- the names of a bundle are those of these contexts, which tell apart what has one; what gets one has
+-- it from the first free one on, and the next free one is above all
 pub record AreNamesOf (p : Program) (list : List ℕ) (answers : ℕ → Option HookAnswer) (context : BundleContexts) (bundle : BundleInput) (names : BundleNames) : Type 0 where
   pub apart : TellApart p answers context
   pub below : (a : Holder) → IsHolder p answers a → context a < position names.contexts
+  pub from : (a : Holder) →
+      IsHolder p answers a →
+      GetsContext answers a →
+      position bundle.contexts ≤ context a
   pub locals : (m : ℕ) → m < length bundle.parts.now → local_in names m ≡ Some (context (TopOf m))
   pub tops : (m : ℕ) (part : BundleModule) →
       slice_get bundle.parts.now m ≡ Some part →

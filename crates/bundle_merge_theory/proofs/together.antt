@@ -4,5 +4,6 @@ pub mod Apart
 pub mod End
 pub mod Facts
 pub mod Contexts
+pub mod Others
 pub mod Taken
 pub mod Theorem

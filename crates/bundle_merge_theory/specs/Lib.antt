@@ -1,5 +1,6 @@
 pub mod noted
 pub mod walked
+pub mod form
 pub mod joined
 pub mod grouped
 pub mod loaded

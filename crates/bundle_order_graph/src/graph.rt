@@ -192,10 +192,24 @@ pub fn cycles(
         AreBlocks graph.now entry (map (λ b. b.items) blocks.items)) }
 {
     let list = order(alloc, graph, entry)?;
-    let pairs = edges_between(alloc, graph, &list)?;
+    cycles_on(alloc, graph, &list)
+}
+
+/// The same of the list that `order` gives.
+pub fn cycles_on(
+    alloc: Global,
+    graph: &ModuleGraph,
+    list: &[ModuleId],
+) -> Result<Vec<Vec<ModuleId>>, AllocError>
+    requires { IsDistinct nat_eq list.now }
+    ensures { IfOk result (λ blocks. (entry : ℕ) →
+        IsOrder graph.now entry list.now →
+        AreBlocks graph.now entry (map (λ b. b.items) blocks.items)) }
+{
+    let pairs = edges_between(alloc, graph, list)?;
     let edges = ends_of(alloc, list.len(), &pairs)?;
     let ranks = ranks_of(alloc, &edges)?;
-    blocks_of(alloc, &edges, &ranks, &list)
+    blocks_of(alloc, &edges, &ranks, list)
 }
 
 /// The edges among the modules of a list, by their places.

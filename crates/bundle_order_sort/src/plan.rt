@@ -1,14 +1,15 @@
 //! The blocks in their order, each with the places of its items.
 
-ghost use Rattle.std.specs.Prelude.{◌≡◌, ℕ, ◌++◌, ◌<◌, IfOk, IsTrue, List, OnOk, length, map, slice_index_or, [], ◌∷◌};
-ghost use Rattle.std.specs.List.{AllZip};
+ghost use Rattle.std.specs.Prelude.{◌≡◌, ℕ, ◌++◌, ◌<◌, nat_eq, IfOk, IsTrue, List, OnOk, length, map, slice_index_or, [], ◌∷◌};
+ghost use Rattle.bundle_order_graph.specs.Order.{IsOrder};
+ghost use Rattle.std.specs.List.{AllZip, IsDistinct};
 ghost use Rattle.bundle_order_sort.specs.Places.{is_list_end, is_in_some, left_of};
 ghost use Rattle.bundle_order_sort.specs.Merged.{ends_list_at, merged};
 ghost use Rattle.bundle_order_sort.specs.Plan.{IsBlock, IsOwnBlock, IsPlanAsked, IsPlanOf, IsPlanOfEach};
 ghost use Rattle.bundle_order_sort.specs.Rows.{AreRows};
 
 use crate::table::{Table, add_all, all_of, table_of};
-use bundle_order_graph::graph::{ModuleGraph, cycles, order};
+use bundle_order_graph::graph::{ModuleGraph, cycles_on, order};
 use bundle_tree_names::ModuleId;
 use indexmap::IndexSet;
 use std::alloc::{AllocError, Global};
@@ -41,28 +42,45 @@ pub fn plan_of(
     ensures { IfOk result (λ plan. IsPlanOf graph.now entry owners.now plan) }
 {
     let list = order(alloc, graph, entry)?;
-    let cycles = cycles(alloc, graph, entry)?;
+    plan_on(alloc, graph, &list, owners)
+}
+
+// The same, where this is the list of the modules that the entry reaches.
+fn plan_on(
+    alloc: Global,
+    graph: &ModuleGraph,
+    list: &[ModuleId],
+    owners: &[ModuleId],
+) -> Result<Plan, AllocError>
+    requires { IsDistinct nat_eq list.now }
+    ensures { IfOk result (λ plan. (entry : ℕ) →
+        IsOrder graph.now entry list.now → IsPlanOf graph.now entry owners.now plan) }
+{
+    let cycles = cycles_on(alloc, graph, list)?;
     let table = table_of(alloc, owners)?;
-    let blocks = blocks_of(alloc, &list, &cycles, &table)?;
-    let left = left_places(alloc, &list, owners)?;
+    let blocks = blocks_of(alloc, list, &cycles, &table)?;
+    let left = left_places(alloc, list, owners)?;
     Ok(Plan { blocks, left })
 }
 
-/// The blocks of the modules of a list that the entry reaches: those of `plan_of`, or where modules stand in the
-/// standard's order (ECMA-262, 16.2.1.5.2), each module in a block of its own. Refused only where memory runs out.
+/// The blocks of the modules that an entry reaches, where this is their list, as `order` gives it: those of `plan_of`,
+/// or where modules stand in the standard's order (ECMA-262, 16.2.1.5.2), each module in a block of its own. Refused only
+/// where memory runs out.
 pub fn plan_asked(
     alloc: Global,
     graph: &ModuleGraph,
-    entry: ModuleId,
     list: &[ModuleId],
     in_standard_order: bool,
 ) -> Result<Plan, AllocError>
-    ensures { IfOk result (IsPlanAsked in_standard_order graph.now entry list.now) }
+    requires { IsDistinct nat_eq list.now }
+    ensures { IfOk result (λ plan. (entry : ℕ) →
+        IsOrder graph.now entry list.now →
+        IsPlanAsked in_standard_order graph.now entry list.now plan) }
 {
     if in_standard_order {
         plan_of_each(alloc, list.len())
     } else {
-        plan_of(alloc, graph, entry, list)
+        plan_on(alloc, graph, list, list)
     }
 }
 

@@ -122,7 +122,7 @@ no_meta how (suc (suc (suc (suc (suc (suc (suc (suc (suc zero))))))))) e = true�
 no_meta how (suc (suc (suc (suc (suc (suc (suc (suc (suc (suc zero)))))))))) e = true≢false (sym e)
 no_meta how (suc (suc (suc (suc (suc (suc (suc (suc (suc (suc (suc n))))))))))) e = true≢false (sym e)
 
-replaces_nothing : (how : Setup) (place : ℕ) (by : Replacement) → Replaced (p how) 0 place by → ⊥
+pub replaces_nothing : (how : Setup) (place : ℕ) (by : Replacement) → Replaced (p how) 0 place by → ⊥
 replaces_nothing how place by (static_read {t = t} word reads) = reads_nothing how place t reads
 replaces_nothing how place by (import_meta is) = no_meta how place is
 replaces_nothing how place by (require_call its stands at resolved) = no_element its stands

@@ -11,13 +11,17 @@ use Rattle.bundle_rules.specs.Declarations.{BySymbol, Name as SourceName}
 use Rattle.bundle_rules.specs.Denotes.{Bound, Global, denoted_at}
 use Rattle.bundle_rules.specs.Nodes.{Text, inside as inside_of, first_or_nothing, side_by_side}
 use Rattle.bundle_rules.specs.Entries.{ImportEntry, import_of, Taken, Named, Whole}
-use Rattle.bundle_rules.specs.Statements.{taken_from}
+use Rattle.bundle_rules.specs.Statements.{Element, taken_from}
 use Rattle.bundle_rules.specs.Program.{Program, tree_of, calls_of, resolves, is_external}
 use Rattle.bundle_rules.specs.Linking.{Target, Declared, Namespace, Linked, StandsFor, declared, imported, taken_whole, imports, Takes, of_module, of_external, of_common_js}
-use Rattle.bundle_rules.specs.Meaning.{Labelling, StatementMeans, bundle_sense, inner_bindings, plain as plain_name, Begins, Ends, Name, Known, Unbound, Of, ByName, Replacement, finished, replaced, begun, ended, named, unbound, outside, OwnMeaning, ReadsAs, by_name, by_read, is_meta_at, Replaced, static_read, import_meta, require_call, is_es}
+use Rattle.bundle_rules.specs.Meaning.{item_of, Labelling, StatementMeans, bundle_sense, inner_bindings, plain as plain_name, Begins, Ends, Name, Known, Unbound, Of, ByName, Replacement, finished, replaced, begun, ended, named, unbound, outside, OwnMeaning, ReadsAs, by_name, by_read, is_meta_at, Replaced, static_read, import_meta, require_call, is_es}
 use Rattle.std.specs.Prelude.{slice_get}
 use Rattle.bundle_rules.specs.Reads.{read_word, property_of}
-use Rattle.bundle_rules.proofs.Trees.{node, module_of, declares, imports_all, calls, runs, binds, uses, member, number}
+use Rattle.bundle_syntax.specs.declared.piece.Role.TheVariants.{Reference}
+use Rattle.bundle_rules.specs.Cleared.{cleared_item}
+use Rattle.bundle_rules.specs.Rebuilds.{with_idents}
+use Rattle.bundle_rules.specs.OwnForms.{IsUnreplaced, WithNames, over, replaced as is_replaced, stays, KeepsForm}
+use Rattle.bundle_rules.proofs.Trees.{node, module_of, declares, imports_all, calls, runs, argument, binds, uses, word, member, number}
 use Rattle.bundle_rules.proofs.LinkingExamples.{x, plain, es_plain, x_is_linked}
 
 -- where no name and no read stands, nothing is read
@@ -235,3 +239,70 @@ optional = refl
 -- but `ns.x.y = 1;` reads `ns.x`
 read_under_write : read_word (module_of (runs (node 0 (h.AssignExpr Assign) (member 1 (member 0 (uses 0 (codes "ns")) x) (codes "y") ++ number 2 (codes "1"))))) 4 ≡ Some x
 read_under_write = refl
+
+-- the form of `use(ns.x);` in a bundle: a name in the place of the read, whatever it is called
+use_keeps_form : KeepsForm p 0 (taken_from 8 (calls (codes "use") (member 1 (uses 0 (codes "ns")) x)))
+    (runs (node 0 h.CallExpr (h.Ident 0 (codes "use") 1 Reference ∷ argument (h.Ident 1 x 4 Reference ∷ []))))
+use_keeps_form = record {
+  named = calls (codes "use") (uses 1 x);
+  with_names = stays (not_there _ refl) (stays (not_there _ refl) (stays tt (stays (not_there _ refl) (is_replaced (x, 0) (ByName (Of (Declared 1 x))) x_is_replaced (stays tt (stays tt (stays tt over)))))));
+  same = refl;
+}
+
+-- `use({ y });`, in which nothing is replaced
+abbrev short_call : List Item
+short_call = calls (codes "use") (node 1 h.ObjectLit (uses 0 (codes "y")))
+
+abbrev q : Program
+q = plain short_call
+
+nothing : (place : ℕ) → denoted_at BySymbol Es (tree_of q 0) place ≡ None → read_word (tree_of q 0) place ≡ None → is_meta_at (slice_get (tree_of q 0) place) ≡ false → (by : Replacement) → Replaced q 0 place by → ⊥
+nothing place no_name no_word no_meta = not_replaced q 0 place no_name no_word no_meta refl
+
+short_named : WithNames q 0 (taken_from 1 short_call) short_call
+short_named = stays (nothing _ refl refl refl) (stays (nothing _ refl refl refl) (stays tt (stays (nothing _ refl refl refl) (stays (nothing _ refl refl refl) (stays tt (stays tt (stays tt (stays tt (stays tt over)))))))))
+
+-- the shorthand stays where its symbol does, and is spelled out where that changes
+shorthand_stays : KeepsForm q 0 (taken_from 1 short_call) (runs (node 0 h.CallExpr (h.Ident 0 (codes "use") 1 Reference ∷ argument (node 1 h.ObjectLit (h.Ident 0 (codes "y") 7 Reference ∷ [])))))
+shorthand_stays = record { named = short_call; with_names = short_named; same = refl }
+
+shorthand_spelled_out : KeepsForm q 0 (taken_from 1 short_call) (calls (codes "use") (node 1 h.ObjectLit (node 0 h.KeyValueProp (word 0 (codes "y") ++ uses 1 (codes "z")))))
+shorthand_spelled_out = record { named = short_call; with_names = short_named; same = refl }
+
+-- it is spelled out nowhere else: not as `use({ y: y });`
+stays_first : (e : Element) (rest : List Element) (items : List Item) → IsUnreplaced q 0 e → WithNames q 0 (e ∷ rest) items → (more : List Item) × (items ≡ cleared_item (item_of e) ∷ more) × WithNames q 0 rest more
+stays_first _ rest _ none (is_replaced name by is more) = absurd (none by is)
+stays_first _ rest _ none (stays {items = more} kept its) = (more, refl, its)
+
+one_list : (items : List Item) → WithNames q 0 (taken_from 1 short_call) items → items ≡ short_call
+one_list items its =
+    let a = stays_first _ _ items (nothing 1 refl refl refl) its in
+    let b = stays_first _ _ a.0 (nothing 2 refl refl refl) a.2 in
+    let c = stays_first _ _ b.0 tt b.2 in
+    let d = stays_first _ _ c.0 (nothing 4 refl refl refl) c.2 in
+    let e = stays_first _ _ d.0 (nothing 5 refl refl refl) d.2 in
+    let f = stays_first _ _ e.0 tt e.2 in
+    let g = stays_first _ _ f.0 tt f.2 in
+    let i = stays_first _ _ g.0 tt g.2 in
+    let j = stays_first _ _ i.0 tt i.2 in
+    let k = stays_first _ _ j.0 tt j.2 in
+    a.1
+    ∙ ap (λ l. h.Open 0 h.ExprStmt ∷ l) (b.1
+    ∙ ap (λ l. h.Open 0 h.CallExpr ∷ l) (c.1
+    ∙ ap (λ l. h.Ident 0 (codes "use") 0 Reference ∷ l) (d.1
+    ∙ ap (λ l. h.Open 1 (h.ExprOrSpread false) ∷ l) (e.1
+    ∙ ap (λ l. h.Open 1 h.ObjectLit ∷ l) (f.1
+    ∙ ap (λ l. h.Ident 0 (codes "y") 0 Reference ∷ l) (g.1
+    ∙ ap (λ l. h.Close ∷ l) (i.1
+    ∙ ap (λ l. h.Close ∷ l) (j.1
+    ∙ ap (λ l. h.Close ∷ l) (k.1
+    ∙ ap (λ l. h.Close ∷ l) (ended_there k.0 k.2))))))))))
+  where
+    ended_there : (more : List Item) → WithNames q 0 [] more → more ≡ []
+    ended_there _ over = refl
+
+needless : KeepsForm q 0 (taken_from 1 short_call) (calls (codes "use") (node 1 h.ObjectLit (node 0 h.KeyValueProp (word 0 (codes "y") ++ uses 1 (codes "y"))))) → ⊥
+needless its = differ (ap (λ l. slice_get l 5) (its.same ∙ ap (λ l. with_idents l ((codes "use", 0) ∷ (codes "y", 0) ∷ [])) (one_list its.named its.with_names)))
+  where
+    differ : Some (h.Open 0 h.KeyValueProp) ≡ Some (h.Ident 0 (codes "y") 0 Reference) → ⊥
+    differ e = cc

@@ -1,5 +1,5 @@
 -- Bundles that are refused, by contexts, by a fault of the program, or by what a hook answered.
-use Rattle.std.proofs.Common.{◌≡◌, ℕ, zero, suc, true, false, List, [], ◌∷◌, ◌++◌, Some, None, refl, sym, ap, ◌∙◌, arith, lit<, true≢false}
+use Rattle.std.proofs.Common.{◌≡◌, ◌<◌, ℕ, zero, suc, true, false, List, [], ◌∷◌, ◌++◌, Some, None, refl, sym, ap, ◌∙◌, arith, lit<, true≢false}
 use Rattle.std.specs.Prelude.{Contains, codes, option_map, slice_get}
 use Rattle.std.proofs.lemmas.Option.{none-some, same_Some}
 use Rattle.bundle_syntax.specs.declared.kind.VarDeclKind.TheVariants.{Const, Let, Var}
@@ -23,7 +23,7 @@ use Rattle.bundle_rules.specs.Meaning.{Label, Of, Labelling, is_es}
 use Rattle.bundle_rules.specs.Bundle.{Hooks, Labelled, AreFaultless}
 use Rattle.bundle_rules.specs.Faults.{Parties}
 use Rattle.bundle_rules.specs.Judging.{Entry, AcceptsProgram}
-use Rattle.bundle_rules.specs.Merged.{Contexts, HasContexts, BindsOwn, IsPrepared}
+use Rattle.bundle_rules.specs.Merged.{Contexts, HasContexts, is_module_name, HasOthersAbove, BindsOwn, IsPrepared}
 use Rattle.bundle_rules.specs.Headline.{BundleKind, Dynamic, IsBundleOf, IsClean}
 use Rattle.bundle_rules.proofs.PlacesLemmas.{occurrence_at-listed}
 use Rattle.bundle_rules.proofs.Trees.{node, module_of, word, number, function, declares, imports, exports_const, exports_default, uses, runs}
@@ -92,6 +92,16 @@ lost_default = record {
 -- a binding with the context 1 would be taken for a global
 bound_as_a_global : BindsOwn (module_of (runs (h.Ident 0 (codes "Object") 1 Binding ∷ []))) → ⊥
 bound_as_a_global own = own 0 _ refl refl refl
+
+-- and a name inside a block, which is no module's, has no context of module 0: those are 2 and 3
+abbrev no_labels : Labelling
+no_labels = []
+
+low_inside : HasOthersAbove ring (read (module_of (node 0 h.BlockStmt (default_with 2))) no_labels) → ⊥
+low_inside above = let low : 3 < 2 = above 5 _ _ _ 0 refl refl (λ l there. no_label there) itself in grind arith
+  where
+    no_label : {d : Denoted} {l : Label} → Contains no_labels (d, l) → is_module_name l ≡ false
+    no_label (i, within, is) = grind arith
 
 -- plain words of a bundle that is not renamed have no context, and its names keep theirs
 clean_name : IsClean (record { require = false; external = []; iife = false; renames = false; most_modules = 9; in_standard_order = false }) (module_of (runs (h.Ident 0 (codes "zzz") 4 Reference ∷ [])))

@@ -6,13 +6,13 @@ use Rattle.std.proofs.lemmas.Bool.Decides.{nat_tests}
 use Rattle.bundle_syntax.specs.Item.{Item}
 use Rattle.bundle_tree_names.specs.FileName.{Name as FileName}
 use Rattle.bundle_rules.specs.Places.{Occurrence, occurrence_at, occurrences, is_binding}
-use Rattle.bundle_rules.specs.Scopes.{Es}
-use Rattle.bundle_rules.specs.Declarations.{BySymbol, ByContext}
-use Rattle.bundle_rules.specs.Denotes.{Global, denoted_at, denoted_as, IsResolved, IsResolutionOf}
+use Rattle.bundle_rules.specs.Scopes.{Es, Scope}
+use Rattle.bundle_rules.specs.Declarations.{BySymbol, ByContext, Name}
+use Rattle.bundle_rules.specs.Denotes.{Bound, Global, denoted_at, denoted_as, IsResolved, IsResolutionOf}
 use Rattle.bundle_rules.specs.Doubled.{first_doubled}
 use Rattle.bundle_rules.specs.Keywords.{keyword_free}
 use Rattle.bundle_order_graph.specs.Walks.{itself}
-use Rattle.bundle_rules.specs.Statements.{TopItem, Element, own_statements}
+use Rattle.bundle_rules.specs.Statements.{TopItem, Element, taken_from, own_statements}
 use Rattle.bundle_rules.specs.Renamed.{IsResolvedFrom, KeepsNames, IsNamed}
 use Rattle.bundle_rules.specs.Entries.{declared_requests, has_import_meta}
 use Rattle.bundle_rules.specs.Bound.{has_free}
@@ -22,16 +22,17 @@ use Rattle.bundle_rules.specs.Program.{IsReached, tree_of, calls_of}
 use Rattle.bundle_rules.specs.Kept.{local_context, export_context}
 use Rattle.bundle_rules.specs.Meaning.{HasKind}
 use Rattle.bundle_rules.specs.Bundle.{form_of, Hooks, Cause, Own, Defines, Helps, HoldsMeta, labelled, StandsFor}
+use Rattle.bundle_rules.specs.OwnForms.{WithNames, over, stays, KeepsForm}
 use Rattle.bundle_rules.specs.Forms.{in_form, wrapped}
 use Rattle.bundle_rules.specs.Symbols.{AreCalled, CalledAlike}
 use Rattle.bundle_rules.specs.Meaning.{own_view}
 use Rattle.bundle_rules.specs.Faults.{Fault, Parties, AskedName, asked_names, ProgramFault, required_entry, required_es_module, doubled_declaration, await_in_common_js, star_of_common_js, name, namespace_over_external_star, external_under_iife, arguments_under_iife, IsFaultlessProgram}
 use Rattle.bundle_rules.specs.Judging.{Entry, AcceptsProgram}
-use Rattle.bundle_rules.specs.Merged.{Contexts, StandsIn, AreItemsOf, none, IsPrepared, HasContexts, BindsOwn, IsMerged, HasRightNames}
+use Rattle.bundle_rules.specs.Merged.{Contexts, StandsIn, AreItemsOf, none, IsPrepared, HasContexts, BindsOwn, IsMerged, ComesOfJoined, HasRightNames}
 use Rattle.bundle_rules.specs.Headline.{Bundled, Named, IsBundleOf}
 use Rattle.bundle_rules.proofs.Programs.{main_js}
 use Rattle.bundle_rules.proofs.CallExamples.{is_called_bundle}
-use Rattle.bundle_rules.proofs.BundleExamples.{Setup, as_module, as_call, with_contexts, p, kept, settings, tree, tree_with, call_with, pairing, no_element, only_main, es, meant_nothing, is_es_kind, its_list, is_bundle, is_bundle_by_contexts}
+use Rattle.bundle_rules.proofs.BundleExamples.{Setup, as_module, as_call, with_contexts, p, kept, settings, tree, tree_with, call, call_with, replaces_nothing, pairing, no_element, only_main, es, meant_nothing, is_es_kind, its_list, is_bundle, is_bundle_by_contexts}
 
 -- The program has no fault.
 
@@ -179,8 +180,8 @@ is_prepared how hooks = record {
 -- It is merged as it is.
 
 -- nothing is declared, and the one name is a global
-contexts : (hooks : Hooks) → HasContexts keyword_free local_context (labelled resolved_tree ByContext (pairing 1))
-contexts hooks = record { declared = λ scope name m x there kept. absurd (no_element _ there); stands = λ scope name m x there. absurd (no_element _ there); globals = λ place o x at global. (each place o at).1 }
+contexts : (spelled : Text → Text) → HasContexts spelled local_context (labelled resolved_tree ByContext (pairing 1))
+contexts spelled = record { declared = λ scope name m x there kept. absurd (no_element _ there); stands = λ scope name m x there. absurd (no_element _ there); globals = λ place o x at global. (each place o at).1 }
 
 -- each item stands for the one statement
 own_alone : (m k : ℕ) (item : TopItem) → StandsFor (pairing 1) (Own m k) item → (m ≡ 0) × (k ≡ 0) × (item ≡ record { start = 1; items = call_with 1 })
@@ -200,19 +201,19 @@ no_other_cause cause item differ stands = at stands.at stands.cause_there
     at zero e = differ (same_Some _ cause e)
     at (suc i) e = not_there cause e
 
-called_own : (how : Setup) (m k : ℕ) (item : TopItem) (statement : List Element) → m ≡ 0 → k ≡ 0 → item ≡ record { start = 1; items = call_with 1 } → slice_get (own_statements (tree_of (p how) m)) k ≡ Some statement → CalledAlike keyword_free (labelled resolved_tree ByContext (pairing 1)) (own_view (p how) m Es) item statement
-called_own how m k item statement is first its there =
-    subst (λ n. CalledAlike keyword_free (labelled resolved_tree ByContext (pairing 1)) (own_view (p how) n Es) item statement) (sym is)
-    (subst (λ it. CalledAlike keyword_free (labelled resolved_tree ByContext (pairing 1)) (own_view (p how) 0 Es) it statement) (sym its)
-    (subst (λ it. CalledAlike keyword_free (labelled resolved_tree ByContext (pairing 1)) (own_view (p how) 0 Es) (record { start = 1; items = call_with 1 }) it)
+called_own : (spelled : Text → Text) (how : Setup) (m k : ℕ) (item : TopItem) (statement : List Element) → m ≡ 0 → k ≡ 0 → item ≡ record { start = 1; items = call_with 1 } → slice_get (own_statements (tree_of (p how) m)) k ≡ Some statement → CalledAlike spelled (labelled resolved_tree ByContext (pairing 1)) (own_view (p how) m Es) item statement
+called_own spelled how m k item statement is first its there =
+    subst (λ n. CalledAlike spelled (labelled resolved_tree ByContext (pairing 1)) (own_view (p how) n Es) item statement) (sym is)
+    (subst (λ it. CalledAlike spelled (labelled resolved_tree ByContext (pairing 1)) (own_view (p how) 0 Es) it statement) (sym its)
+    (subst (λ it. CalledAlike spelled (labelled resolved_tree ByContext (pairing 1)) (own_view (p how) 0 Es) (record { start = 1; items = call_with 1 }) it)
     (same_Some _ statement (subst (λ i. slice_get (own_statements (tree_of (p how) 0)) i ≡ Some statement) first (subst (λ n. slice_get (own_statements (tree_of (p how) n)) k ≡ Some statement) is there))) refl))
 
-called : (how : Setup) (hooks : Hooks) → AreCalled keyword_free (p how) hooks (labelled resolved_tree ByContext (pairing 1)) (pairing 1)
-called how hooks = record {
+called : (spelled : Text → Text) (how : Setup) (hooks : Hooks) → AreCalled spelled (p how) hooks (labelled resolved_tree ByContext (pairing 1)) (pairing 1)
+called spelled how hooks = record {
   list = 0 ∷ [];
   is_list = its_list how;
   outer = λ scope name l there. absurd (no_element _ there);
-  own = λ m k item statement stands there. let alone = own_alone m k item stands in called_own how m k item statement alone.0 alone.1 alone.2 there;
+  own = λ m k item statement stands there. let alone = own_alone m k item stands in called_own spelled how m k item statement alone.0 alone.1 alone.2 there;
   common_js = λ c item f stands. absurd (no_other_cause _ item (no_function c) stands);
   helper = λ item stands. absurd (no_other_cause _ item no_helper stands);
   metas = λ m item stands. absurd (no_other_cause _ item (no_meta m) stands);
@@ -232,8 +233,50 @@ binds_own : BindsOwn resolved_tree
 binds_own zero o there is = absurd (true≢false (sym is ∙ ap (λ (x : Occurrence). is_binding x.role) (sym (same_Some _ o there))))
 binds_own (suc n) o there is = absurd (not_there o there)
 
-pub is_merged : (how : Setup) (hooks : Hooks) → IsMerged keyword_free local_context (p how) hooks resolved_tree
-is_merged how hooks = record { is_bundle = is_bundle_by_contexts how hooks; resolved = resolved; named = λ d there. absurd (no_element d there); contexts = contexts hooks; binds = binds_own; called = called how hooks }
+pub is_merged : (spelled : Text → Text) (how : Setup) (hooks : Hooks) → IsMerged spelled local_context (p how) hooks resolved_tree
+is_merged spelled how hooks = record { is_bundle = is_bundle_by_contexts how hooks; resolved = resolved; named = λ d there. absurd (no_element d there); contexts = contexts spelled; binds = binds_own; called = called spelled how hooks }
+
+-- The statement keeps its form, and there are no keywords.
+
+call_named : (how : Setup) → WithNames (p how) 0 (taken_from 1 call) call
+call_named how = stays (replaces_nothing how _) (stays (replaces_nothing how _) (stays tt (stays (replaces_nothing how _) (stays (replaces_nothing how _) (stays tt (stays tt (stays tt (stays tt over))))))))
+
+keeps_form : (how : Setup) (m k : ℕ) (item : TopItem) (statement : List Element) → m ≡ 0 → k ≡ 0 → item ≡ record { start = 1; items = call_with 1 } → slice_get (own_statements (tree_of (p how) m)) k ≡ Some statement → KeepsForm (p how) m statement item.items
+keeps_form how m k item statement is first its there =
+    subst (λ n. KeepsForm (p how) n statement item.items) (sym is)
+    (subst (λ (it : TopItem). KeepsForm (p how) 0 statement it.items) (sym its)
+    (subst (λ it. KeepsForm (p how) 0 it (call_with 1))
+    (same_Some _ statement (subst (λ i. slice_get (own_statements (tree_of (p how) 0)) i ≡ Some statement) first (subst (λ n. slice_get (own_statements (tree_of (p how) n)) k ≡ Some statement) is there)))
+    (record { named = call; with_names = call_named how; same = refl })))
+
+comes_of_joined : (how : Setup) (hooks : Hooks) → ComesOfJoined (p how) hooks resolved_tree
+unfolding is_merged
+comes_of_joined how hooks = record {
+  joined = resolved_tree;
+  is_joined = record {
+    merged = is_merged (λ x. x) how hooks;
+    forms = record {
+      own = λ m k item statement stands there. let alone = own_alone m k item stands in keeps_form how m k item statement alone.0 alone.1 alone.2 there;
+      common_js = λ c item stands. absurd (no_other_cause _ item (no_function c) stands);
+    };
+    others = λ place o scope its m at denotes unlabelled reached. absurd (no_binding scope its (sym (each place o at).2 ∙ denotes));
+  };
+  rid = record {
+    same = refl;
+    free = record {
+      symbols = refl;
+      contexts = (refl, tt);
+      resolved = resolved;
+      alike = record { len = refl; same = λ i j. (λ e. e, λ e. e); globals = λ i x. (λ e. e, λ e. e) };
+    };
+  };
+}
+  where
+    no_function : (c : ℕ) → Own 0 0 ≡ Defines c → ⊥
+    no_function c e = cc
+
+    no_binding : (scope : Scope) (its : Name) → Some (Global (codes "f")) ≡ Some (Bound scope its) → ⊥
+    no_binding scope its e = cc
 
 -- It is named: f keeps its symbol, and its context is 0.
 
@@ -245,10 +288,10 @@ is_named = record { keeps = keeps; renamed = record { numbers = λ scope name. 0
 
 -- so its names are right, renamed or not
 right_names : (is_call : Bool) (hooks : Hooks) → HasRightNames (p (record { is_call = is_call; is_renamed = true })) hooks (in_form (form_of (settings (record { is_call = is_call; is_renamed = true }))) tree)
-right_names is_call hooks = record { merged = resolved_tree; is_merged = is_merged _ hooks; named = tree; names = is_named; whole = refl; form = refl }
+right_names is_call hooks = record { merged = resolved_tree; comes = comes_of_joined _ hooks; is_merged = is_merged keyword_free _ hooks; named = tree; names = is_named; whole = refl; form = refl }
 
 right_contexts : (is_call : Bool) (hooks : Hooks) → HasRightNames (p (record { is_call = is_call; is_renamed = false })) hooks (in_form (form_of (settings (record { is_call = is_call; is_renamed = false }))) resolved_tree)
-right_contexts is_call hooks = record { merged = resolved_tree; is_merged = is_merged _ hooks; named = resolved_tree; names = refl; whole = refl; form = refl }
+right_contexts is_call hooks = record { merged = resolved_tree; comes = comes_of_joined _ hooks; is_merged = is_merged keyword_free _ hooks; named = resolved_tree; names = refl; whole = refl; form = refl }
 
 -- And it is handed out, as the bundle of the entry `("m", main.js)`.
 

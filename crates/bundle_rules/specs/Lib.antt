@@ -36,6 +36,7 @@ pub mod Linking
 pub mod Meaning
 pub mod Injected
 pub mod Bundle
+pub mod OwnForms
 pub mod Symbols
 -- What is kept, what is refused and in which order.
 pub mod Kept

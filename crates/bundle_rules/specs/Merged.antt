@@ -15,13 +15,14 @@ use Rattle.bundle_rules.specs.Keywords.{keyword_free}
 use Rattle.bundle_rules.specs.Nodes.{Text, parts, IsWholeModule}
 use Rattle.bundle_rules.specs.Entries.{has_import_meta}
 use Rattle.bundle_rules.specs.Cleared.{tidied}
-use Rattle.bundle_rules.specs.Renamed.{IsResolvedFrom, HasNamesOnly, IsNamed}
+use Rattle.bundle_rules.specs.Renamed.{IsResolvedFrom, HasNamesOnly, IsNamed, IsRidOfKeywords}
 use Rattle.bundle_rules.specs.Parts.{Parts, in_order, items_in}
 use Rattle.bundle_rules.specs.Program.{Program, tree_of, IsReached}
-use Rattle.bundle_rules.specs.Kept.{local_context}
+use Rattle.bundle_rules.specs.Kept.{local_context, export_context}
 use Rattle.bundle_rules.specs.Linking.{Declared}
-use Rattle.bundle_rules.specs.Meaning.{Of, HasKind}
+use Rattle.bundle_rules.specs.Meaning.{Label, Of, Parameter, HasKind}
 use Rattle.bundle_rules.specs.Bundle.{Hooks, MayHold, AreFaultless, properties_tree, Labelled, labelled, AsModule, form_of, IsBundle}
+use Rattle.bundle_rules.specs.OwnForms.{KeepForms}
 use Rattle.bundle_rules.specs.Symbols.{AreCalled}
 use Rattle.bundle_rules.specs.Forms.{in_form}
 use Rattle.bundle_rules.specs.Tables.{IsChecked}
@@ -145,6 +146,24 @@ pub record HasContexts (spelled : Text → Text) (local : ℕ → ℕ) (b : Labe
       denoted_at ByContext Es b.tree place ≡ Some (Global x) →
       o.ctxt ≡ 1
 
+-- whether a binding that stands for this is a name of a module: one that it declares or, of a
+-- CommonJS module, a parameter of its function
+abbrev pub is_module_name : Label → Bool
+is_module_name (Of (Declared m x)) = true
+is_module_name (Parameter c x) = true
+is_module_name _ = false
+
+-- all other bindings, which are those inside statements and those of what is added, have contexts
+-- above those of the reached modules
+abbrev pub HasOthersAbove : Program → Labelled → Type 0
+HasOthersAbove p b =
+    (place : ℕ) (o : Occurrence) (scope : Scope) (name : Name) (m : ℕ) →
+    occurrence_at b.tree place ≡ Some o →
+    denoted_at ByContext Es b.tree place ≡ Some (Bound scope name) →
+    ((l : Label) → Contains b.labels (Bound scope name, l) → is_module_name l ≡ false) →
+    IsReached p m →
+    export_context m < o.ctxt
+
 -- no binding has the context 1, which is that of globals
 abbrev pub BindsOwn : List Item → Type 0
 BindsOwn tree = (n : ℕ) (o : Occurrence) → slice_get (occurrences tree) n ≡ Some o → is_binding o.role ≡ true → o.ctxt ≢ 1
@@ -158,14 +177,32 @@ pub record IsMerged (spelled : Text → Text) (local : ℕ → ℕ) (p : Program
   pub binds : BindsOwn tree
   pub called : AreCalled spelled p hooks (labelled tree ByContext is_bundle.pairing) is_bundle.pairing
 
+-- the modules of a program as they are joined, before keywords are renamed: they are merged with
+-- their names as they are, own statements keep their forms, and all that is no module's name has
+-- a context above those of modules
+pub record IsJoined (p : Program) (hooks : Hooks) (joined : List Item) : Type 0 where
+  pub merged : IsMerged (λ x. x) local_context p hooks joined
+  pub forms : KeepForms p merged.is_bundle.pairing
+  pub others : HasOthersAbove p (labelled joined ByContext merged.is_bundle.pairing)
+
+-- a tree comes of the joined modules by the renaming of keywords
+pub record ComesOfJoined (p : Program) (hooks : Hooks) (merged : List Item) : Type 0 where
+  pub joined : List Item
+  pub is_joined : IsJoined p hooks joined
+  pub rid : IsRidOfKeywords joined merged
+
 -- how the merged tree is named: by the naming rule or, where it is not renamed, as it is
 abbrev pub IsNamedAs : (is_renamed : Bool) → List Item → List Item → Type 0
 IsNamedAs true merged named = IsNamed merged named
 IsNamedAs false merged named = named ≡ tidied merged
 
--- the names of a bundle are right: it comes of the merged modules without keywords, which are named, where the settings say so, and then put into their form; what is named is the list of a module, so that no name stands behind it
+-- the names of a bundle are right, and its own statements keep their forms: it comes of the
+-- joined modules, whose keywords are renamed and which are named, where the settings say so, and
+-- then put into their form; what is named is the list of a module, so that no name stands behind
+-- it
 pub record HasRightNames (p : Program) (hooks : Hooks) (tree : List Item) : Type 0 where
   pub merged : List Item
+  pub comes : ComesOfJoined p hooks merged
   pub is_merged : IsMerged keyword_free local_context p hooks merged
   pub named : List Item
   pub names : IsNamedAs p.settings.renames merged named

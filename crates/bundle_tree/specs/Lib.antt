@@ -1,2 +1,3 @@
 pub mod IdName
 pub mod IdNameLaws
+pub mod Error

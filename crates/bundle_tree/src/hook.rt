@@ -5,7 +5,7 @@ ghost use Rattle.std.specs.Prelude.{◌≡◌, IfOk, Err};
 use bundle_tree_ast::KeyValueProp;
 use bundle_tree_names::file_name::FileName;
 use std::alloc::Global;
-use thiserror::Error;
+use std::{error, fmt};
 
 /// The module whose `import.meta` is asked for: the name that the loader gave its file, and whether it
 /// is the entry of the bundle.
@@ -16,15 +16,31 @@ pub struct ModuleRecord {
 }
 
 /// Why a hook gives no properties.
-#[derive(Clone, Copy, PartialEq, Eq, Debug, Drop, Error)]
+#[derive(Clone, Copy, PartialEq, Eq, Debug, Drop)]
 pub enum HookError {
     /// The hook has no answer.
-    #[error("the hook has no answer")]
     Failed,
     /// A growth was refused.
-    #[error("out of memory")]
     OutOfMemory,
 }
+
+/// Writes why.
+impl fmt::Display for HookError {
+    ghost use Rattle.std.specs.Prelude.{Some};
+    ghost use Rattle.bundle_tree.specs.Error.{hook_error_shown};
+
+    ghost output = { λ refusal. Some (hook_error_shown refusal) };
+
+    fn fmt<W: fmt::Write>(&self, f: &mut fmt::Formatter<W>) -> fmt::Result {
+        let reason = match self {
+            HookError::Failed => "the hook has no answer",
+            HookError::OutOfMemory => "out of memory",
+        };
+        write!(f, "{reason}")
+    }
+}
+
+impl error::Error for HookError {}
 
 /// Gives the properties of `import.meta` (ECMA-262, 13.3.12.1 HostGetImportMetaProperties). Each
 /// implementation says which properties it may give for a module, and where it may fail; asked twice,

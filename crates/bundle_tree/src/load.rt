@@ -6,7 +6,7 @@ ghost use Rattle.bundle_tree_names.specs.FileName.{name_of};
 use bundle_tree_ast::Module;
 use bundle_tree_names::file_name::FileName;
 use std::alloc::Global;
-use thiserror::Error;
+use std::{error, fmt};
 
 /// A module as a loader gives it, and the name that it gives the file. The linker speaks of a file by
 /// the name that it asked for; the hook sees this one.
@@ -17,15 +17,31 @@ pub struct ModuleData {
 }
 
 /// Why a loader gives no module.
-#[derive(Clone, Copy, PartialEq, Eq, Debug, Drop, Error)]
+#[derive(Clone, Copy, PartialEq, Eq, Debug, Drop)]
 pub enum LoadError {
     /// The file cannot be loaded.
-    #[error("the file cannot be loaded")]
     Failed,
     /// A growth was refused.
-    #[error("out of memory")]
     OutOfMemory,
 }
+
+/// Writes why.
+impl fmt::Display for LoadError {
+    ghost use Rattle.std.specs.Prelude.{Some};
+    ghost use Rattle.bundle_tree.specs.Error.{load_error_shown};
+
+    ghost output = { λ refusal. Some (load_error_shown refusal) };
+
+    fn fmt<W: fmt::Write>(&self, f: &mut fmt::Formatter<W>) -> fmt::Result {
+        let reason = match self {
+            LoadError::Failed => "the file cannot be loaded",
+            LoadError::OutOfMemory => "out of memory",
+        };
+        write!(f, "{reason}")
+    }
+}
+
+impl error::Error for LoadError {}
 
 /// Loads modules. Each implementation says which module it may give for a name, and for which names it
 /// may fail; asked twice, it may give two answers.

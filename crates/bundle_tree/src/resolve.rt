@@ -5,18 +5,34 @@ ghost use Rattle.bundle_tree_names.specs.FileName.{name_of};
 
 use bundle_tree_names::file_name::FileName;
 use std::alloc::Global;
-use thiserror::Error;
+use std::{error, fmt};
 
 /// Why a resolver gives no file.
-#[derive(Clone, Copy, PartialEq, Eq, Debug, Drop, Error)]
+#[derive(Clone, Copy, PartialEq, Eq, Debug, Drop)]
 pub enum ResolveError {
     /// The specifier leads to no file.
-    #[error("the specifier leads to no file")]
     Failed,
     /// A growth was refused.
-    #[error("out of memory")]
     OutOfMemory,
 }
+
+/// Writes why.
+impl fmt::Display for ResolveError {
+    ghost use Rattle.std.specs.Prelude.{Some};
+    ghost use Rattle.bundle_tree.specs.Error.{resolve_error_shown};
+
+    ghost output = { λ refusal. Some (resolve_error_shown refusal) };
+
+    fn fmt<W: fmt::Write>(&self, f: &mut fmt::Formatter<W>) -> fmt::Result {
+        let reason = match self {
+            ResolveError::Failed => "the specifier leads to no file",
+            ResolveError::OutOfMemory => "out of memory",
+        };
+        write!(f, "{reason}")
+    }
+}
+
+impl error::Error for ResolveError {}
 
 /// Resolves specifiers (ECMA-262, 16.2.1.8 HostResolveImportedModule). Each implementation says which
 /// file it may give for a specifier of a file, and where it may fail; asked twice, it may give two

@@ -13,7 +13,7 @@ use Rattle.bundle_syntax.specs.Item.{Item}
 use Rattle.bundle_tree_ast.specs.declared.module.Module.{Module}
 use Rattle.bundle_order_sort.specs.declared.plan.Block.{Block}
 use Rattle.bundle_rules.specs.Entries.{has_import_meta}
-use Rattle.bundle_rules.specs.Kept.{local_context}
+use Rattle.bundle_rules.specs.Kept.{local_context, export_context}
 use Rattle.bundle_rules.specs.Nodes.{flat}
 use Rattle.bundle_rules.specs.Program.{Program, tree_of, IsReached}
 use Rattle.bundle_rules.specs.Statements.{own_statements}
@@ -43,9 +43,11 @@ use Rattle.bundle_merge_theory.specs.planned.Placed.{id_at}
 use Rattle.bundle_merge_theory.specs.sound.Decided.{AreTablesTold, decided_by}
 use Rattle.bundle_merge_theory.specs.finished.Ended.{IsNamedAtOnce}
 use Rattle.bundle_merge_theory.specs.finished.Twice.{IsEditable}
+use Rattle.bundle_merge_theory.proofs.answered.Meta.{are-fresh}
 use Rattle.bundle_merge_theory.proofs.fit.Facts.{one_plain}
 use Rattle.bundle_merge_theory.proofs.finished.Theorem.{in-turn}
 use Rattle.bundle_merge_names.specs.Bundle.{AreBundleParts}
+use Rattle.bundle_merge_names.proofs.RefusedLemmas.{others-get}
 use Rattle.bundle_merge_names.specs.Numbers.{position}
 use Rattle.bundle_merge_names.specs.Refused as r
 use Rattle.bundle_merge_names.specs.Refused.{RefusesContextsIn, RefusesNames}
@@ -67,7 +69,7 @@ use Rattle.bundler_entry.specs.declared.linked.LinkedEntry.{LinkedEntry}
 use Rattle.bundler_entry.specs.declared.meta.ReadMeta.{ReadMeta}
 use Rattle.bundler_entry.specs.declared.unlinked.EntryError.{EntryError}
 use Rattle.bundler_entry.proofs.LinkedLemmas.{file_at}
-use Rattle.bundler_entry.proofs.PartsLemmas.{are-once, are-parts, are-sound, are-told, below-reached, free-above, local-is}
+use Rattle.bundler_entry.proofs.PartsLemmas.{are-once, are-parts, are-sound, are-told, below-reached, export-below, free-above, local-is}
 use Rattle.bundler_entry.specs.Finished.{IsEnded, NamesInTurn, naming_for}
 use Rattle.bundler_entry.specs.declared.entry.MetaAnswer.{MetaAnswer as Answer_read}
 
@@ -163,11 +165,19 @@ module _ (p : Program) (entry : ℕ) (call : EntryCall) (w : IsCallOf p entry ca
       bundle.parts.now → bundle.linking.now ≡ linked.linking →
       bundle.blocks.now ≡ linked.plan.blocks.items → (merged : MergedModule) →
       IsMergedOf q (numbers_from zero n) (all_fresh answers) bundle meta count merged →
+      IfSome bundle.contexts.next (λ next. next ≡ call.program.now.count * 2 + 2) →
       IsMergedIn q linked answers merged.tree
-  merged-in bodies bundle parts linking blocks merged its = record {
+  merged-in bodies bundle parts linking blocks merged its above = record {
     context = its.context;
     apart = its.apart;
     tops = tops;
+    first = position bundle.contexts;
+    others = λ a holder never.
+        its.from a holder (others-get q (all_fresh answers) (are-fresh answers) a holder never);
+    over = λ k reached.
+        let at = there_is ids k ((below-reached p entry call w linked l k).0 reached) in
+        subst (λ (o : Option ℕ). export_context (unwrap_or o zero) < position bundle.contexts)
+        (sym at.1) (export-below p entry call w linked l bundle.contexts.next above k at.0 at.1);
     orders = its.orders;
     items = its.items;
     are_made = subst
@@ -227,7 +237,7 @@ module _ (p : Program) (entry : ℕ) (call : EntryCall) (w : IsCallOf p entry ca
       blocks above)
       answered
       (are-told p entry call w linked l bodies are-bodies metas read bundle parts answers linking
-      blocks above))
+      blocks above)) above
 
   -- why they are not merged
   pub all-refused : (bundle : BundleInput) (error : MergeError) (found : Option ℕ)

@@ -24,7 +24,7 @@ use Rattle.bundle_rules.specs.Statements.{own_statements}
 use Rattle.bundle_rules.specs.Tables.{TellsCommonJs}
 use Rattle.bundle_order_sort.specs.declared.plan.Block.{Block}
 use Rattle.bundle_rules.specs.Cleared.{cleared}
-use Rattle.bundle_rules.specs.Kept.{local_context}
+use Rattle.bundle_rules.specs.Kept.{local_context, export_context}
 use Rattle.bundle_scope_denote.specs.declared.table.Denotations.{Denotations}
 use Rattle.bundle_tree_listed.specs.Tree.{key_value_prop_items, module_item_items, node}
 use Rattle.bundle_scope_denote.specs.Listed.{IsDenotationTable}
@@ -341,6 +341,12 @@ below-free : (next : Option ℕ) (count m : ℕ) → IfSome next (λ n. n ≡ co
 below-free None count m above below bound = omega (arith, bound)
 below-free (Some n) count m above below bound = omega (arith, above, below)
 
+-- and so is that of what a file exports
+export-free : (next : Option ℕ) (count m : ℕ) → IfSome next (λ n. n ≡ count * 2 + 2) → m < count →
+    m ≤ 2147483646 → 2 * m + 3 < unwrap_or next 4294967296
+export-free None count m above below bound = omega (arith, bound)
+export-free (Some n) count m above below bound = omega (arith, above, below)
+
 -- those are not far above
 pub free-above : (next : Option ℕ) (count : ℕ) → IfSome next (λ n. n ≡ count * 2 + 2) →
     IfNone next (4294967295 < count * 2 + 2) → unwrap_or next 4294967296 ≤ 2 * count + 2
@@ -411,6 +417,14 @@ module _ (p : Program) (entry : ℕ) (call : EntryCall) (w : IsCallOf p entry ca
   number-of k m at =
       let place = place_of p entry call w linked.reached l.reached k m at in
       w.bounded m (held (ids_of call) m place.0 place.2)
+
+  -- what a module exports has a context below those that are free
+  pub export-below : (next : Option ℕ) →
+      IfSome next (λ free. free ≡ call.program.now.count * 2 + 2) → (k m : ℕ) →
+      slice_get ids_parts k ≡ Some m → export_context m < unwrap_or next 4294967296
+  export-below next above k m at =
+      export-free next call.program.now.count m above (known.below-count p entry call w linked l k m at)
+      (number-of k m at)
 
   -- the context of a part is that of its file
   pub local-is : (bodies : List (Option Denotations)) (k m : ℕ) (part : BundleModule) →

@@ -43,7 +43,7 @@ use Rattle.bundle_rules.specs.Doubled.{first_doubled}
 use Rattle.bundle_rules.specs.Faults.{IsFaultlessProgram}
 use Rattle.bundle_rules.specs.Forms.{in_form, wrapped}
 use Rattle.bundle_rules.specs.Headline.{reading_of}
-use Rattle.bundle_rules.specs.Kept.{local_context}
+use Rattle.bundle_rules.specs.Kept.{local_context, export_context}
 use Rattle.bundle_rules.specs.Scopes.{Es}
 use Rattle.bundle_rules.specs.Statements.{own_statements}
 use Rattle.bundle_tree_ast.specs.declared.module.ModuleDecl.TheVariants as d
@@ -78,6 +78,7 @@ use Rattle.bundle_merge_theory.specs.planned.Placed.{id_at}
 use Rattle.bundle_merge_theory.specs.finished.Ended.{IsNamedAtOnce}
 use Rattle.bundle_merge_theory.specs.made.Made.{AreMade}
 use Rattle.bundle_merge_theory.specs.made.Alone.{TellApart}
+use Rattle.bundle_merge_theory.specs.together.Others.{AreOthersGiven}
 use Rattle.bundle_merge_theory.specs.sound.Known.{AreKnown, IsByPlaces}
 use Rattle.bundle_merge_theory.specs.sound.Decided.{AreTablesLinked, decided_by}
 use Rattle.bundle_merge_theory.proofs.called.Undoubled.{wrapped-cleared, wrapped-tidied, wrapped-undoubled}
@@ -573,6 +574,7 @@ module _ (p : Program) (hooks : Hooks) (named : List Item)
         subst (λ f. IsBundle p hooks f (reading_of p.settings) named) (sym form) end.is_bundle;
     names = record {
       merged = end.free;
+      comes = end.comes;
       is_merged = end.is_merged;
       named = named;
       names = end.names;
@@ -593,6 +595,7 @@ module _ (p : Program) (hooks : Hooks) (named : List Item)
         end.is_bundle);
     names = record {
       merged = end.free;
+      comes = end.comes;
       is_merged = end.is_merged;
       named = named;
       names = end.names;
@@ -618,11 +621,13 @@ pub made-bundle : (p q : Program) (ids : List ℕ) (g : Modules) → IsByPlaces 
     (decided_by linking meta count (length ids) (map block_of plan.blocks.items)) orders items →
     TellApart q answers context →
     ((k : ℕ) → IsReached q k → context (TopOf k) ≡ local_context (id_at ids k)) →
+    (first : ℕ) → AreOthersGiven q answers context first →
+    ((k : ℕ) → IsReached q k → export_context (id_at ids k) < first) →
     (config : Config) → p.settings.renames ≡ is_renaming config →
     p.settings.iife ≡ is_one_call config.module → (handed : List Item) →
     IsFinished config (joined_items items) handed → IsEntryBundle p hooks handed
 made-bundle p q ids g places known its_moved linking meta count linked plan planned hooks context
-    answers are_fresh orders items made apart locals config renames iife handed finished =
+    answers are_fresh orders items made apart locals first given over config renames iife handed finished =
     by_form (is_one_call config.module) refl
   where
     named : IsNamedAtOnce p.settings.renames (joined_items items) (module_items 0 finished.named)
@@ -630,17 +635,23 @@ made-bundle p q ids g places known its_moved linking meta count linked plan plan
         subst (λ b. IsNamedAtOnce b (joined_items items) (module_items 0 finished.named)) (sym renames)
         finished.at_once
 
+    all_over : (m : ℕ) → IsReached p m → export_context m < first
+    all_over m reached =
+        let on = reached_on p q (IsModuleAt ids) its_moved.alike m reached in
+        subst (λ (o : Option ℕ). export_context (unwrap_or o zero) < first) on.1 (over on.0 on.2)
+
     end : IsEnded p.settings p hooks (module_items 0 finished.named)
     end =
         made-ended p q ids g places known its_moved linking meta count linked plan planned hooks
-        context answers orders items made apart locals are_fresh p.settings
+        context answers orders items made apart locals first given all_over are_fresh p.settings
         (module_items 0 finished.named) named
 
     can : is_one_call config.module ≡ true → CanBeWrapped finished.named.body.items
     can so =
         statements-wrapped finished.named
         (made-statements p q ids g places known its_moved linking meta count linked plan planned
-        hooks context answers orders items made apart locals (iife ∙ so) p.settings.renames
+        hooks context answers orders items made apart locals first given all_over (iife ∙ so)
+        p.settings.renames
         (module_items 0 finished.named) named)
 
     by_form : (b : Bool) → is_one_call config.module ≡ b → IsEntryBundle p hooks handed
@@ -767,6 +778,6 @@ module _ (p : Program) (entry : ℕ) (call : EntryCall) (w : IsCallOf p entry ca
       (λ k properties is. (held k properties (fresh-told given k properties is)).1)
       (λ k ctxt notes properties is. absurd (are-fresh given k ctxt notes properties is))
       (decided_in q linked) merged.orders merged.items merged.are_made)
-      merged.apart merged.tops call.config.now.base w.renames w.iife (module_items 0 made)
+      merged.apart merged.tops merged.first merged.others merged.over call.config.now.base w.renames w.iife (module_items 0 made)
       (subst (λ before. IsFinished call.config.now.base before (module_items 0 made)) merged.is
       its.finished)

@@ -56,7 +56,7 @@ pub fn linked_entry<'p, 'x>(
     let reached = reached_from(alloc, files, entry)?;
     let linking = linking_of(alloc, call, &reached)?;
     let in_standard_order = call.config.in_standard_order;
-    let plan = plan_asked(alloc, &files.graph, entry, &reached.list, in_standard_order)?;
+    let plan = plan_asked(alloc, &files.graph, &reached.list, in_standard_order)?;
     Ok(LinkedEntry {
         reached,
         linking,

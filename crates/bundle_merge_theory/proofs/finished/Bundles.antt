@@ -1,6 +1,6 @@
 -- What is handed out for an entry: a merged bundle, rid of keywords and, where the settings say so,
 -- named, as a module or as the call of one function, is the bundle of that entry.
-use Rattle.std.proofs.Common.{◌≡◌, true, false, List, None, ap, sym, ◌∙◌, subst}
+use Rattle.std.proofs.Common.{◌≡◌, ℕ, true, false, List, None, ap, sym, ◌∙◌, subst}
 use Rattle.std.specs.Prelude.{if◌then◌else◌}
 use Rattle.std.proofs.lemmas.Bool.{false≢true}
 use Rattle.bundle_syntax.specs.Item.{Item}
@@ -19,7 +19,7 @@ use Rattle.bundle_rules.specs.Faults.{Parties}
 use Rattle.bundle_rules.specs.Judging.{Entry, IsProgramOf, AcceptsProgram}
 use Rattle.bundle_rules.specs.Bundle.{Cause, Hooks, AsModule, IsBundle, labelled}
 use Rattle.bundle_rules.specs.Symbols.{AreCalled}
-use Rattle.bundle_rules.specs.Merged.{HasContexts, BindsOwn, IsMerged, IsNamedAs}
+use Rattle.bundle_rules.specs.Merged.{HasContexts, BindsOwn, IsMerged, IsJoined, ComesOfJoined, IsNamedAs}
 use Rattle.bundle_rules.specs.Headline.{reading_of, IsClean}
 use Rattle.bundle_scope_names.proofs.naming_rule.Clash.{HasPlainKeys}
 use Rattle.bundle_scope_names.proofs.naming_rule.Theorem.{IsUndoubled}
@@ -29,10 +29,12 @@ use Rattle.bundle_merge_theory.specs.composed.Noted.{pairing_of}
 use Rattle.bundle_merge_theory.specs.finished.Finished.{called_idents, recall}
 use Rattle.bundle_merge_theory.specs.finished.Rules.{IsKeywordRule}
 use Rattle.bundle_merge_theory.specs.finished.Whole.{named_at_once, AreRightNumbers}
+use Rattle.bundle_merge_theory.specs.together.Others.{HasOthersFrom}
 use Rattle.bundle_merge_theory.proofs.composed.Theorem.{IsWholeBundle}
 use Rattle.bundle_merge_theory.proofs.finished.Numbers.{ready-editable, free-whole, free-listed, bundle-finished, unnamed, unnamed-clean}
 use Rattle.bundle_merge_theory.proofs.finished.Modules.{tidied-whole}
-use Rattle.bundle_merge_theory.proofs.finished.Tidied.{tidied-bundle}
+use Rattle.bundle_merge_theory.proofs.finished.Rules.{rule-faithful}
+use Rattle.bundle_merge_theory.proofs.finished.Tidied.{rid-of-keywords, tidied-bundle}
 use Rattle.bundle_merge_theory.proofs.finished.Items.{keywords-keep-merged}
 
 -- a bundle in the form of a module that is named as the settings say, and what it comes of
@@ -42,11 +44,12 @@ pub record IsEnded (settings : Settings) (p : Program) (hooks : Hooks) (named : 
   pub is_bundle : IsBundle p hooks AsModule (reading_of settings) named
   pub whole : IsWholeModule named
   pub free : List Item
+  pub comes : ComesOfJoined p hooks free
   pub is_merged : IsMerged keyword_free local_context p hooks free
   pub names : IsNamedAs settings.renames free named
 
 -- what a merge owes
-pub record IsMergedRight (p : Program) (hooks : Hooks) (plan : List Cause) (merged : List Item) : Type 0 where
+pub record IsMergedRight (first : ℕ) (p : Program) (hooks : Hooks) (plan : List Cause) (merged : List Item) : Type 0 where
   pub whole : IsWholeBundle p hooks plan merged
   pub listed : AreListed Other merged
   pub called : AreCalled (λ x. x) p hooks
@@ -54,13 +57,25 @@ pub record IsMergedRight (p : Program) (hooks : Hooks) (plan : List Cause) (merg
       (pairing_of whole.ready.still.labels whole.ready.still.items plan)
   pub contexts : HasContexts (λ x. x) local_context
       (labelled merged ByContext (pairing_of whole.ready.still.labels whole.ready.still.items plan))
+  pub others : HasOthersFrom first
+      (labelled merged ByContext (pairing_of whole.ready.still.labels whole.ready.still.items plan))
   pub binds : BindsOwn merged
 
-module _ (settings : Settings) (p : Program) (hooks : Hooks) (plan : List Cause) (merged : List Item) (its : IsMergedRight p hooks plan merged) (call : Calling) (rule : IsKeywordRule call merged) where
+module _ (settings : Settings) (p : Program) (hooks : Hooks) (plan : List Cause) (merged : List Item) (first : ℕ) (its : IsMergedRight first p hooks plan merged) (is_joined : IsJoined p hooks merged) (call : Calling) (rule : IsKeywordRule call merged) where
   is-merged : IsMerged keyword_free local_context p hooks (recall call merged)
   is-merged =
       keywords-keep-merged p hooks plan merged its.whole call rule its.listed local_context
       its.called its.contexts its.binds
+
+  comes-of : ComesOfJoined p hooks (recall call merged)
+  comes-of = record {
+    joined = merged;
+    is_joined = is_joined;
+    rid =
+        rid-of-keywords call merged its.whole.names its.whole.plain
+        (ready-editable p hooks plan merged its.whole.ready)
+        (rule-faithful call merged its.whole.names rule) its.whole.resolved rule.calling;
+  }
 
   -- with hygiene
   pub ends-named : settings.renames ≡ true → HasPlainKeys merged → IsUndoubled merged →
@@ -75,6 +90,7 @@ module _ (settings : Settings) (p : Program) (hooks : Hooks) (plan : List Cause)
         is_bundle = subst (λ b. IsBundle p hooks AsModule (if b then BySymbol else ByContext) named) (sym renames) end.is_bundle;
         whole = end.whole_module;
         free = recall call merged;
+        comes = comes-of;
         is_merged = is-merged;
         names = subst (λ b. IsNamedAs b (recall call merged) named) (sym renames) end.names;
       }
@@ -96,6 +112,7 @@ module _ (settings : Settings) (p : Program) (hooks : Hooks) (plan : List Cause)
             (subst (IsBundle p hooks AsModule ByContext) (sym is) (tidied-bundle p hooks plan (recall call merged) free (free-listed call merged editable its.listed)));
         whole = subst IsWholeModule (sym is) (tidied-whole p hooks plan ByContext (recall call merged) free.ready.still);
         free = recall call merged;
+        comes = comes-of;
         is_merged = is-merged;
         names = subst (λ b. IsNamedAs b (recall call merged) named) (sym renames) is;
       }

@@ -32,7 +32,8 @@ use Rattle.bundle_rules.specs.Entries.{Settings, declared_requests}
 use Rattle.bundle_order_sort.specs.Plan.{IsPlanAsked}
 use Rattle.bundle_order_sort.specs.declared.plan.Plan.{Plan}
 use Rattle.bundle_rules.specs.Faults.{ExternalUnderIife, external_under_iife}
-use Rattle.bundle_rules.specs.Kept.{local_context}
+use Rattle.bundle_rules.specs.Kept.{local_context, export_context}
+use Rattle.bundle_rules.specs.Merged.{IsJoined}
 use Rattle.bundle_scope_names.specs.declared.names.ContextRule.TheVariants.{Keep, Clear}
 use Rattle.bundle_merge_injected.specs.Listed as l
 use Rattle.bundle_scope_names.specs.fit.Sorts.{AnItem, AStmt}
@@ -48,7 +49,8 @@ use Rattle.bundle_link_targets.specs.declared.linking.Linking.{Linking}
 use Rattle.bundle_merge_theory.specs.joined.Joined.{joined_items}
 use Rattle.bundle_merge_theory.proofs.joined.Paths.{flat-append, get-left as at-front}
 use Rattle.bundle_merge_theory.specs.walked.Renaming.{KeepsText}
-use Rattle.bundle_merge_theory.specs.planned.Decided.{one_if, Decided, AreDecided, HandsOutNames, exported, numbers_from, front_plan, back_plan, blocks_plan, plan_of}
+use Rattle.bundle_link.specs.Alike.{IsModuleAt}
+use Rattle.bundle_merge_theory.specs.planned.Decided.{index_of, one_if, Decided, AreDecided, HandsOutNames, exported, numbers_from, front_plan, back_plan, blocks_plan, plan_of}
 use Rattle.bundle_merge_theory.specs.made.Given.{HookAnswer, BundleContexts, AreFresh, TopOf}
 use Rattle.bundle_merge_theory.specs.made.Made as in_made
 use Rattle.bundle_merge_theory.specs.made.Made.{IsMade, linked_idents, AreMade}
@@ -62,7 +64,7 @@ use Rattle.bundle_merge_theory.proofs.finished.Statements.{stmt_statements, all_
 use Rattle.bundle_merge_theory.proofs.own.Fit.{as_stmt, states_stmt}
 use Rattle.bundle_merge_theory.proofs.function.Given.{fit_given, one_alone}
 use Rattle.bundle_merge_theory.proofs.told.Tops.{top_fit}
-use Rattle.bundle_merge_theory.proofs.together.Facts.{all-forms, no-lone, all-fit}
+use Rattle.bundle_merge_theory.proofs.together.Facts.{all-forms, no-lone, all-fit, all-single}
 use Rattle.bundle_merge_theory.proofs.together.Tables.{notes-of}
 use Rattle.bundle_merge_theory.specs.finished.Finished.{called_idents, recall}
 use Rattle.bundle_merge_theory.specs.finished.Rules.{IsKeywordRule}
@@ -80,9 +82,16 @@ use Rattle.bundle_merge_theory.specs.planned.Placed.{id_at}
 use Rattle.bundle_merge_theory.specs.moved.Renumbered.{cause_at}
 use Rattle.bundle_merge_theory.specs.sound.Known.{AreKnown, IsByPlaces}
 use Rattle.bundle_merge_theory.specs.sound.Decided.{AreTablesLinked, decided_by}
+use Rattle.bundle_merge_theory.specs.together.Others.{AreOthersGiven}
 use Rattle.bundle_merge_theory.specs.together.Together.{AreMergedTogether}
 use Rattle.bundle_merge_theory.proofs.fit.Facts.{joined_keyless}
+use Rattle.bundle_merge_theory.specs.composed.Noted.{pairing_of}
+use Rattle.bundle_merge_theory.proofs.form.Carried.{CauseKeepsForms, all-forms-on, paired-keep, same-items}
+use Rattle.bundle_merge_theory.proofs.form.Made.{made-keeps}
 use Rattle.bundle_merge_theory.proofs.laid.Laid.{AreLaid, are-laid}
+use Rattle.bundle_merge_theory.proofs.moved.Due.{due-named}
+use Rattle.bundle_merge_theory.proofs.moved.Moved.{places-renamed}
+use Rattle.bundle_merge_theory.proofs.planned.OrderLemmas.{contains-get}
 use Rattle.bundle_merge_theory.proofs.moved.Owed.{AreMoved}
 use Rattle.bundle_merge_theory.proofs.planned.RequestLemmas.{star-used}
 use Rattle.bundle_merge_theory.proofs.sound.Sound.{sound}
@@ -347,7 +356,7 @@ with-its-idents renames merged resolved only after made = by renames refl
 
 -- The end of a bundle.
 
-module _ (settings : Settings) (p : Program) (hooks : Hooks) (plan : List Cause) (merged : List Item) (its : IsMergedRight p hooks plan merged) (tidy : tidied merged ≡ merged) (after : List Item) (made : IsNamedAtOnce settings.renames merged after) where
+module _ (settings : Settings) (p : Program) (hooks : Hooks) (plan : List Cause) (merged : List Item) (first : ℕ) (its : IsMergedRight first p hooks plan merged) (is_joined : IsJoined p hooks merged) (tidy : tidied merged ≡ merged) (after : List Item) (made : IsNamedAtOnce settings.renames merged after) where
   abbrev call : Calling
   call = n.call merged its.whole.names made.table made.denotes its.whole.resolved made.right.keywords made.right.texts made.right.contexts
 
@@ -360,7 +369,7 @@ module _ (settings : Settings) (p : Program) (hooks : Hooks) (plan : List Cause)
       ∙ ap (λ names. with_idents merged (idents_called made.table names Keep merged)) (made.right.kept so)
       ∙ ap (with_idents merged) (n.kept-idents merged its.whole.names made.table made.denotes its.whole.resolved made.right.keywords made.right.texts made.right.contexts)
       ∙ ap (λ t. with_idents t (called_idents call merged)) (sym tidy)))
-      (ends-unnamed settings p hooks plan merged its call (n.rule merged its.whole.names made.table made.denotes its.whole.resolved made.right.keywords made.right.texts made.right.contexts) so)
+      (ends-unnamed settings p hooks plan merged first its is_joined call (n.rule merged its.whole.names made.table made.denotes its.whole.resolved made.right.keywords made.right.texts made.right.contexts) so)
 
   -- with it
   with-names : settings.renames ≡ true → HasPlainKeys merged → IsUndoubled merged →
@@ -372,7 +381,7 @@ module _ (settings : Settings) (p : Program) (hooks : Hooks) (plan : List Cause)
       ∙ sym (made.is
       ∙ ap (λ b. with_idents merged (idents_called made.table made.names (if b then Clear else Keep) merged)) so
       ∙ ap (with_idents merged) (n.named-idents merged its.whole.names made.table made.denotes its.whole.resolved made.right.keywords made.right.texts made.right.contexts made.names (made.right.named so))))
-      (ends-named settings p hooks plan merged its call (n.rule merged its.whole.names made.table made.denotes its.whole.resolved made.right.keywords made.right.texts made.right.contexts) so keys undoubled numbers
+      (ends-named settings p hooks plan merged first its is_joined call (n.rule merged its.whole.names made.table made.denotes its.whole.resolved made.right.keywords made.right.texts made.right.contexts) so keys undoubled numbers
       (n.right merged its.whole.names made.table made.denotes its.whole.resolved made.right.keywords made.right.texts made.right.contexts made.names (made.right.named so)))
 
   -- the end of a bundle
@@ -471,7 +480,9 @@ module _ (p q : Program) (ids : List ℕ) (g : Modules) (places : IsByPlaces p q
   module _ (orders : List (List ℕ)) (items : List (List Item))
       (made : AreMade q hooks places_of context answers d orders items)
       (apart : TellApart q answers context)
-      (locals : (k : ℕ) → IsReached q k → context (TopOf k) ≡ local_context (id_at ids k)) where
+      (locals : (k : ℕ) → IsReached q k → context (TopOf k) ≡ local_context (id_at ids k))
+      (first : ℕ) (given : AreOthersGiven q answers context first)
+      (over : (m : ℕ) → IsReached p m → export_context m < first) where
     abbrev its_plan : List Cause
     its_plan = plan_of d orders
 
@@ -492,10 +503,10 @@ module _ (p q : Program) (ids : List ℕ) (g : Modules) (places : IsByPlaces p q
     notes : HasItemNotes q hooks places_of context answers its_plan items
     notes = notes-of q hooks places_of context answers its_plan items laid.alone
 
-    pub made-right : IsMergedRight p hooks (map (cause_at ids) its_plan) (joined_items items)
+    pub made-right : IsMergedRight first p hooks (map (cause_at ids) its_plan) (joined_items items)
     made-right =
         known-right p q ids g places known its_moved linking meta count linked plan planned hooks
-        context answers orders items made apart locals
+        context answers orders items made apart locals first given
 
     tidy : AreFresh answers → tidied (joined_items items) ≡ joined_items items
     tidy are_fresh =
@@ -512,11 +523,70 @@ module _ (p q : Program) (ids : List ℕ) (g : Modules) (places : IsByPlaces p q
         joined_keyless items
         (all-fit q hooks places_of context answers its_plan items notes.noted notes.each)
 
+    -- of what is made own statements keep their forms
+    kept_forms : AllZip (CauseKeepsForms q) its_plan items
+    kept_forms =
+        by its_plan items laid.made (λ cause there. (laid.due cause).0 there)
+      where
+        by : (plan_part : List Cause) (parts : List (List Item)) →
+            AllZip (IsMade q hooks places_of context answers) plan_part parts →
+            ((cause : Cause) → Contains plan_part cause → IsDue q AsModule cause) →
+            AllZip (CauseKeepsForms q) plan_part parts
+        by [] [] all its_due = tt
+        by [] (part ∷ parts) all its_due = absurd all
+        by (cause ∷ plan_part) [] all its_due = absurd all
+        by (cause ∷ plan_part) (part ∷ parts) all its_due = (
+          made-keeps q places_of context its_sound hooks answers cause part
+              (its_due cause (here cause plan_part)) all.0,
+          by plan_part parts all.1 (λ other there. its_due other (later cause plan_part other there)),
+        )
+
+    -- in the items of the bundle, whose modules have their own numbers
+    forms_there : AllZip (CauseKeepsForms p) (map (cause_at ids) its_plan) made-right.whole.ready.still.items
+    forms_there =
+        let still = made-right.whole.ready.still in
+        let renamed = places-renamed p q ids its_moved in
+        subst (λ these. AllZip (CauseKeepsForms p) (map (cause_at ids) its_plan) these)
+        (same-items items still.items
+        (all-single q hooks places_of context answers its_plan items together) still.bundle.single
+        still.is)
+        (all-forms-on (λ k m. IsModuleAt ids m k) (id_at ids) renamed.names q p renamed.alike
+        its_plan items
+        (λ i cause at. due-named q p (λ k m. IsModuleAt ids m k) (id_at ids) (λ m. index_of m ids)
+        renamed ((laid.due cause).0 (contains-get its_plan i cause at)))
+        kept_forms)
+
+    -- JOINED
+    joined : IsJoined p hooks (joined_items items)
+    joined =
+        let still = made-right.whole.ready.still in
+        record {
+          merged = record {
+            is_bundle = record {
+              pairing = pairing_of still.labels still.items (map (cause_at ids) its_plan);
+              paired = still.paired;
+              laid_out = made-right.whole.laid;
+            };
+            resolved = made-right.whole.resolved;
+            named = made-right.whole.names;
+            contexts = made-right.contexts;
+            binds = made-right.binds;
+            called = made-right.called;
+          };
+          forms =
+              paired-keep p (map (cause_at ids) its_plan) still.items still.labels still.bundle.single
+              forms_there;
+          others = λ place o scope name m at denotes unlabelled reached.
+              let from = made-right.others place o scope name at denotes unlabelled in
+              let below = over m reached in
+              omega (arith, from, below);
+        }
+
     -- THE END of a bundle
     pub made-ended : AreFresh answers → (settings : Settings) (after : List Item) →
         IsNamedAtOnce settings.renames (joined_items items) after → IsEnded settings p hooks after
     made-ended are_fresh settings after named =
-        ends settings p hooks (map (cause_at ids) its_plan) (joined_items items) made-right
+        ends settings p hooks (map (cause_at ids) its_plan) (joined_items items) first made-right joined
         (tidy are_fresh) after named keyless (λ renames. undoubled)
 
     -- Where it is one function's call.

@@ -21,6 +21,7 @@ use Rattle.bundle_merge_theory.proofs.finished.Bundles.{IsMergedRight}
 use Rattle.bundle_merge_theory.proofs.fit.Facts.{one_listed, joined_fit}
 use Rattle.bundle_merge_theory.specs.made.Given.{HookAnswer, BundleContexts, TopOf}
 use Rattle.bundle_merge_theory.specs.made.Alone.{AreTreesSound, TellApart, IsItemAlone}
+use Rattle.bundle_merge_theory.specs.together.Others.{AreOthersGiven}
 use Rattle.bundle_merge_theory.specs.together.Together.{AreMergedTogether}
 use Rattle.bundle_merge_theory.specs.together.Table.{HasItemNotes, HasOneEntries, table_of}
 use Rattle.bundle_merge_theory.specs.moved.Renumbered.{cause_at}
@@ -29,13 +30,14 @@ use Rattle.bundle_merge_theory.proofs.together.Apart.{are-apart, all-named}
 use Rattle.bundle_merge_theory.proofs.together.Contexts.{are-called, module-contexts, binds-own, called-labels}
 use Rattle.bundle_merge_theory.proofs.together.Facts.{all-fit, whole-items, whole-resolved, whole-bundle}
 use Rattle.bundle_merge_theory.proofs.together.End.{one-entries}
+use Rattle.bundle_merge_theory.proofs.together.Others.{others-from}
 use Rattle.bundle_merge_theory.proofs.together.Tables.{notes-of}
 use Rattle.bundle_merge_theory.proofs.moved.Moved.{moved}
 
 -- what a merge owes, where its labels speak of reached modules
-pub record IsOwed (local : ℕ → ℕ) (p : Program) (hooks : Hooks) (plan : List Cause)
+pub record IsOwed (first : ℕ) (local : ℕ → ℕ) (p : Program) (hooks : Hooks) (plan : List Cause)
     (merged : List Item) : Type 0 where
-  pub owed : IsMergedBy local p hooks plan merged
+  pub owed : IsMergedBy first local p hooks plan merged
   pub reached : AreLabelsReached p owed.whole.ready.still.labels
 
 module _ (p : Program) (hooks : Hooks) (list : List ℕ) (context : BundleContexts)
@@ -44,9 +46,10 @@ module _ (p : Program) (hooks : Hooks) (list : List ℕ) (context : BundleContex
     (entries : HasOneEntries p context) (notes : HasItemNotes p hooks list context answers plan items)
     (labels : Labelling)
     (laid : IsLaidOut p AsModule ByContext (joined_items items) (pairing_of labels items plan))
-    (local : ℕ → ℕ) (locals : (m : ℕ) → IsReached p m → context (TopOf m) ≡ local m) where
+    (local : ℕ → ℕ) (locals : (m : ℕ) → IsReached p m → context (TopOf m) ≡ local m)
+    (first : ℕ) (given : AreOthersGiven p answers context first) where
   -- the contexts of modules may be any
-  owed-by : IsOwed local p hooks plan (joined_items items)
+  owed-by : IsOwed first local p hooks plan (joined_items items)
   unfolding whole-bundle merged-bundle merged-ready
   owed-by =
       let whole = whole-items p hooks list context answers plan items its notes in
@@ -65,6 +68,7 @@ module _ (p : Program) (hooks : Hooks) (list : List ℕ) (context : BundleContex
               (module-contexts p hooks list context answers plan items its notes local locals)
               (λ i m x c. called-labels p hooks list context answers plan items its notes i
               (Of (IsDeclared m x)) c) plan;
+          others = others-from p hooks list context answers plan items its notes first given;
           binds = binds-own p hooks list context answers plan items its notes;
         };
         reached = labels-reached p hooks list context answers plan items its notes resolved;
@@ -81,13 +85,14 @@ pub made-by : (p : Program) (hooks : Hooks) (list : List ℕ) (context : BundleC
     (local : ℕ → ℕ) → (locals : (m : ℕ) → IsReached p m → context (TopOf m) ≡ local m) →
     (labels : Labelling) →
     (laid : IsLaidOut p AsModule ByContext (joined_items items) (pairing_of labels items plan)) →
-    IsOwed local p hooks plan (joined_items items)
+    (first : ℕ) → AreOthersGiven p answers context first →
+    IsOwed first local p hooks plan (joined_items items)
 made-by p hooks list context answers plan items sound apart alone due once local locals labels
-    laid =
+    laid first given =
     owed-by p hooks list context answers plan items
     (record { sound = sound; apart = apart; alone = alone; due = due; once = once })
     (one-entries p list sound context) (notes-of p hooks list context answers plan items alone)
-    labels laid local locals
+    labels laid local locals first given
 
 -- RIGHT for the program itself, where q has its modules by their places in the list
 pub made-moved : (p q : Program) (places : List ℕ) → AreMoved p q places → (hooks : Hooks)
@@ -101,11 +106,12 @@ pub made-moved : (p q : Program) (places : List ℕ) → AreMoved p q places →
     (locals : (k : ℕ) → IsReached q k → context (TopOf k) ≡ local_context (id_at places k)) →
     (labels : Labelling) →
     (laid : IsLaidOut q AsModule ByContext (joined_items items) (pairing_of labels items plan)) →
-    IsMergedRight p hooks (map (cause_at places) plan) (joined_items items)
+    (first : ℕ) → AreOthersGiven q answers context first →
+    IsMergedRight first p hooks (map (cause_at places) plan) (joined_items items)
 made-moved p q places its hooks list context answers plan items sound apart alone due once locals
-    labels laid =
+    labels laid first given =
     let made =
     made-by q hooks list context answers plan items sound apart alone due once
-    (λ k. context (TopOf k)) (λ k reached. refl) labels laid in
-    moved p q places its hooks plan (joined_items items) (λ k. context (TopOf k)) made.owed made.reached
+    (λ k. context (TopOf k)) (λ k reached. refl) labels laid first given in
+    moved p q places its hooks plan (joined_items items) first (λ k. context (TopOf k)) made.owed made.reached
     locals

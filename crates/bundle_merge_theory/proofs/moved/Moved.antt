@@ -2,7 +2,7 @@
 -- but for the numbers of its modules.
 -- MOVED: what a merge owes for a program in which modules are numbered by their places in a list,
 -- it owes for the program itself.
-use Rattle.std.proofs.Common.{◌≡◌, ◌↔◌, ℕ, ◌+◌, List, [], ◌∷◌, Some, Contains, length, map, sym, ap, ◌∙◌, subst}
+use Rattle.std.proofs.Common.{◌≡◌, ◌↔◌, ℕ, ◌+◌, List, [], ◌∷◌, Some, Contains, length, map, refl, sym, ap, ◌∙◌, subst}
 use Rattle.std.specs.Prelude.{slice_get, zero, unwrap_or}
 use Rattle.std.specs.List.{AllZip}
 use Rattle.bundle_syntax.specs.Item.{Item}
@@ -12,12 +12,12 @@ use Rattle.bundle_rules.specs.Declarations.{Reading, BySymbol, ByContext}
 use Rattle.bundle_rules.specs.Denotes.{Denoted, Bound}
 use Rattle.bundle_rules.specs.Statements.{TopItem, Element, own_statements, placed}
 use Rattle.bundle_rules.specs.Program.{Program, tree_of, IsReached}
-use Rattle.bundle_rules.specs.Linking.{Declared}
-use Rattle.bundle_rules.specs.Meaning.{Label, Of, Labelling, Mark, Means, View, inner_bindings}
+use Rattle.bundle_rules.specs.Linking.{Declared, Namespace, External, CommonJs}
+use Rattle.bundle_rules.specs.Meaning.{Label, Of, Parameter, Load, Meta, Helper, Labelling, Mark, Means, View, inner_bindings}
 use Rattle.bundle_rules.specs.Injected.{load_front, load_back, meta_object}
 use Rattle.bundle_rules.specs.Bundle.{Cause, Own, Defines, Helps, HoldsMeta, AsModule, Hooks, IsDue, ItemMeans, Labelled, labelled, sense_of, elements_of, SameMeaning, IsLoadFunction, Pairing, StandsFor}
 use Rattle.bundle_rules.specs.Symbols.{symbol_of_label, item_symbols, inner_symbols, CalledAlike, AreCalled}
-use Rattle.bundle_rules.specs.Merged.{HasContexts}
+use Rattle.bundle_rules.specs.Merged.{HasContexts, is_module_name}
 use Rattle.bundle_rules.specs.Kept.{local_context}
 use Rattle.bundle_link_targets.proofs.StageLemmas.{map_at as mapped-at}
 use Rattle.bundle_link.specs.Alike.{IsAlike, IsModuleAt}
@@ -243,14 +243,26 @@ module _ (p q : Program) (R : ℕ → ℕ → Type 0) (name back : ℕ → ℕ)
     globals = has.globals;
   }
 
+-- whether a label is a module's name is not of numbers
+same-name : (name : ℕ → ℕ) (l : Label) → is_module_name (label_by name l) ≡ is_module_name l
+same-name name (Of (Declared m x)) = refl
+same-name name (Of (Namespace m)) = refl
+same-name name (Of (External s its)) = refl
+same-name name (Of (CommonJs m c its)) = refl
+same-name name (Parameter c x) = refl
+same-name name (Load c) = refl
+same-name name (Meta m) = refl
+same-name name Helper = refl
+
 -- ---- moved
-pub right-by : (p : Program) (hooks : Hooks) (plan : List Cause) (merged : List Item) →
-    IsMergedBy local_context p hooks plan merged → IsMergedRight p hooks plan merged
-right-by p hooks plan merged its = record {
+pub right-by : (first : ℕ) (p : Program) (hooks : Hooks) (plan : List Cause) (merged : List Item) →
+    IsMergedBy first local_context p hooks plan merged → IsMergedRight first p hooks plan merged
+right-by first p hooks plan merged its = record {
   whole = its.whole;
   listed = its.listed;
   called = its.called;
   contexts = its.contexts;
+  others = its.others;
   binds = its.binds;
 }
 
@@ -276,12 +288,12 @@ module _ (p q : Program) (R : ℕ → ℕ → Type 0) (name back : ℕ → ℕ)
         objects = whole.objects;
       }
 
-  pub merged-by : (local other : ℕ → ℕ) (owed : IsMergedBy local p hooks plan merged) →
+  pub merged-by : (first : ℕ) (local other : ℕ → ℕ) (owed : IsMergedBy first local p hooks plan merged) →
       AreLabelsReached p owed.whole.ready.still.labels →
       ((m : ℕ) → IsReached p m → local m ≡ other (name m)) →
-      IsMergedBy other q hooks (map (cause_by name) plan) merged
+      IsMergedBy first other q hooks (map (cause_by name) plan) merged
   unfolding whole-by ready-by still-by
-  merged-by local other owed reached locals =
+  merged-by first local other owed reached locals =
       let still = owed.whole.ready.still in
       record {
         whole = whole-by owed.whole reached;
@@ -292,6 +304,10 @@ module _ (p q : Program) (R : ℕ → ℕ → Type 0) (name back : ℕ → ℕ)
         contexts =
             contexts-by p q R name back its hooks plan ByContext merged still.labels still.items
             reached still.bundle.due (λ x. x) local other locals owed.contexts;
+        others = λ place o scope x at denotes unlabelled.
+            owed.others place o scope x at denotes
+            (λ l there. sym (same-name name l)
+            ∙ unlabelled (label_by name l) (is-labelled name still.labels (Bound scope x) l there));
         binds = owed.binds;
       }
 
@@ -308,12 +324,12 @@ places-renamed p q list its = record {
 
 -- MOVED
 pub moved : (p q : Program) (list : List ℕ) → AreMoved p q list → (hooks : Hooks)
-    (plan : List Cause) (merged : List Item) (local : ℕ → ℕ) →
-    (owed : IsMergedBy local q hooks plan merged) →
+    (plan : List Cause) (merged : List Item) (first : ℕ) (local : ℕ → ℕ) →
+    (owed : IsMergedBy first local q hooks plan merged) →
     AreLabelsReached q owed.whole.ready.still.labels →
     ((k : ℕ) → IsReached q k → local k ≡ local_context (id_at list k)) →
-    IsMergedRight p hooks (map (cause_at list) plan) merged
-moved p q list its hooks plan merged local owed reached locals =
-    right-by p hooks (map (cause_at list) plan) merged
+    IsMergedRight first p hooks (map (cause_at list) plan) merged
+moved p q list its hooks plan merged first local owed reached locals =
+    right-by first p hooks (map (cause_at list) plan) merged
     (merged-by q p (λ k m. IsModuleAt list m k) (id_at list) (λ m. index_of m list)
-    (places-renamed p q list its) hooks plan merged local local_context owed reached locals)
+    (places-renamed p q list its) hooks plan merged first local local_context owed reached locals)

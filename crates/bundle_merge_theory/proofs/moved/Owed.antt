@@ -29,14 +29,15 @@ use Rattle.bundle_merge_theory.proofs.planned.RequestLemmas.{declared_leads, mea
 use Rattle.bundle_merge_theory.specs.made.Given.{HookAnswer, BundleContexts, numbers_in}
 use Rattle.bundle_merge_theory.specs.made.Alone
 use Rattle.bundle_merge_theory.specs.made.Alone.{AddsLabel, DeclaresLabel, IsTopLabel}
+use Rattle.bundle_merge_theory.specs.together.Others.{HasOthersFrom}
 use Rattle.bundle_merge_theory.specs.together.Together.{AreMergedTogether}
 use Rattle.bundle_merge_theory.specs.together.Table.{HasItemNotes, table_of}
 use Rattle.bundle_merge_theory.proofs.together.Tables.{EntryKind, of_label, of_own, entry-from, entry-kind}
 
 -- ---- owed
 
--- what a merge owes, where a module has this context
-pub record IsMergedBy (local : ℕ → ℕ) (p : Program) (hooks : Hooks) (plan : List Cause)
+-- what a merge owes, where a module has this context, and all that is no module's name has one from `first` on
+pub record IsMergedBy (first : ℕ) (local : ℕ → ℕ) (p : Program) (hooks : Hooks) (plan : List Cause)
     (merged : List Item) : Type 0 where
   pub whole : IsWholeBundle p hooks plan merged
   pub listed : AreListed Other merged
@@ -44,6 +45,8 @@ pub record IsMergedBy (local : ℕ → ℕ) (p : Program) (hooks : Hooks) (plan 
       (labelled merged ByContext (pairing_of whole.ready.still.labels whole.ready.still.items plan))
       (pairing_of whole.ready.still.labels whole.ready.still.items plan)
   pub contexts : HasContexts (λ x. x) local
+      (labelled merged ByContext (pairing_of whole.ready.still.labels whole.ready.still.items plan))
+  pub others : HasOthersFrom first
       (labelled merged ByContext (pairing_of whole.ready.still.labels whole.ready.still.items plan))
   pub binds : BindsOwn merged
 

@@ -191,7 +191,7 @@ field_kept f (h.Ident field x ctxt role) e =
 field_kept f (h.Hole field) e = ap (λ n. h.Hole n) (sym (same_Some field f e))
 field_kept f h.Close e = refl
 
-field_moved : (f : ℕ) (x : Item) (g : ℕ) → field_of x ≡ Some g → field_of (moved_to f x) ≡ Some f
+pub field_moved : (f : ℕ) (x : Item) (g : ℕ) → field_of x ≡ Some g → field_of (moved_to f x) ≡ Some f
 field_moved f (h.Open field head) g e = refl
 field_moved f (h.Ident field x ctxt role) g e = refl
 field_moved f (h.Hole field) g e = refl
@@ -285,17 +285,17 @@ keeps_object (h.AssignExpr op) first keeps = refl
 keeps_object (h.OptChainExpr optional) first keeps = refl
 keeps_object _ first keeps = absurd (false≢true keeps)
 
-keeps_notable : {meta : Option Meant} {head : Head} {inside : List Item} {by : Replacement}
+pub keeps_notable : {meta : Option Meant} {head : Head} {inside : List Item} {by : Replacement}
     (first : ℕ) → IsNotable meta head inside by → keeps_first head first ≡ true → ⊥
 keeps_notable first (by_reads count are) keeps = false≢true keeps
 keeps_notable first (by_call are) keeps = false≢true keeps
 keeps_notable first (by_meta e) keeps = false≢true keeps
 
-property_notable : {meta : Option Meant} {inside : List Item} {by : Replacement} →
+pub property_notable : {meta : Option Meant} {inside : List Item} {by : Replacement} →
     IsNotable meta h.AssignPatProp inside by → ⊥
 property_notable it = elim it [ ]
 
-pattern_notable : {meta : Option Meant} {inside : List Item} {by : Replacement} →
+pub pattern_notable : {meta : Option Meant} {inside : List Item} {by : Replacement} →
     IsNotable meta h.BindingIdent inside by → ⊥
 pattern_notable it = elim it [ ]
 

@@ -129,13 +129,13 @@ module _ (sense : Sense) (inner : List Denoted) where
       m
 
 -- ---- nodes in another field
-nodes_in : {items : List Item} → AreNodesInTurn items → (field : ℕ) → AreNodesInTurn (node_in_field field items)
+pub nodes_in : {items : List Item} → AreNodesInTurn items → (field : ℕ) → AreNodesInTurn (node_in_field field items)
 nodes_in n.nothing field = n.nothing
 nodes_in (n.name it) field = n.name it
 nodes_in (n.hole it) field = n.hole it
 nodes_in (n.node it more) field = n.node it more
 
-nodes_from : (items : List Item) (field : ℕ) → AreNodesInTurn (node_in_field field items) → AreNodesInTurn items
+pub nodes_from : (items : List Item) (field : ℕ) → AreNodesInTurn (node_in_field field items) → AreNodesInTurn items
 nodes_from [] field nodes = n.nothing
 nodes_from (h.Open old head ∷ rest) field nodes = nodes_in nodes old
 nodes_from (h.Ident old x ctxt role ∷ rest) field nodes = nodes_in nodes old

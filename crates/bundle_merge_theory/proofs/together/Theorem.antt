@@ -18,6 +18,7 @@ use Rattle.bundle_merge_theory.specs.made.Given.{HookAnswer, BundleContexts, Top
 use Rattle.bundle_merge_theory.specs.made.Made.{AreMade}
 use Rattle.bundle_merge_theory.specs.made.Alone.{TellApart}
 use Rattle.bundle_merge_theory.specs.moved.Renumbered.{cause_at}
+use Rattle.bundle_merge_theory.specs.together.Others.{AreOthersGiven}
 use Rattle.bundle_merge_theory.specs.sound.Known.{AreKnown, IsByPlaces}
 use Rattle.bundle_merge_theory.specs.sound.Decided.{AreTablesLinked, decided_by}
 use Rattle.bundle_merge_theory.proofs.finished.Bundles.{IsMergedRight}
@@ -40,11 +41,12 @@ module _ (p q : Program) (ids : List ℕ) (g : Modules) (places : IsByPlaces p q
   pub known-right : (orders : List (List ℕ)) (items : List (List Item)) →
       AreMade q hooks places_of context answers d orders items → TellApart q answers context →
       ((k : ℕ) → IsReached q k → context (TopOf k) ≡ local_context (id_at ids k)) →
-      IsMergedRight p hooks (map (cause_at ids) (plan_of d orders)) (joined_items items)
-  known-right orders items made apart locals =
+      (first : ℕ) → AreOthersGiven q answers context first →
+      IsMergedRight first p hooks (map (cause_at ids) (plan_of d orders)) (joined_items items)
+  known-right orders items made apart locals first given =
       let its = sound p q ids known in
       let is = decided p q ids g places linking meta count linked plan planned in
       let laid = are-laid q hooks places_of context answers d orders items made is apart
       (made-alone q hooks places_of context answers its apart) in
       made-moved p q ids moved hooks places_of context answers (plan_of d orders) items
-      its apart laid.alone laid.due laid.once locals [] (laid.laid [])
+      its apart laid.alone laid.due laid.once locals [] (laid.laid []) first given

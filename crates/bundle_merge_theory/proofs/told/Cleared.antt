@@ -75,7 +75,7 @@ end_cleared None = refl
 end_cleared (Some []) = refl
 end_cleared (Some (x ∷ rest)) = refl
 
-are_reads-cleared : (count : ℕ) (inside : List Item) →
+pub are_reads-cleared : (count : ℕ) (inside : List Item) →
     are_reads count (cleared inside) ≡ are_reads count inside
 are_reads-cleared count inside =
     ap (λ items. is_end (behind_reads count items)) (sym (node_cleared 0 h.MemberExpr inside))
@@ -89,7 +89,7 @@ one_string-cleared
     refl
 one_string-cleared _ = refl
 
-literal_call-cleared : (inside : List Item) →
+pub literal_call-cleared : (inside : List Item) →
     is_literal_call (cleared inside) ≡ is_literal_call inside
 literal_call-cleared (h.Ident field x ctxt r.Reference ∷ arguments) = one_string-cleared arguments
 literal_call-cleared _ = refl
@@ -120,7 +120,7 @@ call-cleared (Some note) inside = by note.whole
 
 -- Heads.
 
-head_stays : (meta : Option Meant) (next : Option Note) (head : Head) (inside : List Item) →
+pub head_stays : (meta : Option Meant) (next : Option Note) (head : Head) (inside : List Item) →
     node_stays meta next (cleared_head head) (cleared inside) ≡ node_stays meta next head inside
 head_stays meta next (h.ImportDecl its) inside = refl
 head_stays meta next (h.NamedExport its) inside = refl
@@ -217,7 +217,7 @@ module _ (meta : Option Meant) where
 
   -- What a top item states.
 
-  itself_cleared : (head : Head) → states_itself (cleared_head head) ≡ states_itself head
+  pub itself_cleared : (head : Head) → states_itself (cleared_head head) ≡ states_itself head
   itself_cleared (h.ImportDecl its) = refl
   itself_cleared (h.NamedExport its) = refl
   itself_cleared (h.ExportAll its) = refl
@@ -229,7 +229,7 @@ module _ (meta : Option Meant) where
   default_head h.ClassExpr is = refl
   default_head _ is = cc
 
-  in_field-cleared : (field : ℕ) (items : List Item) →
+  pub in_field-cleared : (field : ℕ) (items : List Item) →
       cleared (node_in_field field items) ≡ node_in_field field (cleared items)
   in_field-cleared field [] = refl
   in_field-cleared field (h.Open old head ∷ rest) = refl
@@ -237,7 +237,7 @@ module _ (meta : Option Meant) where
   in_field-cleared field (h.Hole old ∷ rest) = refl
   in_field-cleared field (h.Close ∷ rest) = refl
 
-  default_node : (field its : ℕ) (head : Head) (body : List Item) → is_default_head head ≡ true →
+  pub default_node : (field its : ℕ) (head : Head) (body : List Item) → is_default_head head ≡ true →
       cleared (node field h.ExportDefaultDecl (node its head body))
       ≡ node field h.ExportDefaultDecl (node its head (cleared body))
   default_node field its head body is =

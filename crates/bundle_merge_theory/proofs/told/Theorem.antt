@@ -34,6 +34,8 @@ use Rattle.bundle_merge_theory.specs.walked.Rewrites.{is_own_item, AreOwn, Keeps
 use Rattle.bundle_merge_theory.specs.walked.Stated.{StatesList, SameStated}
 use Rattle.bundle_merge_theory.proofs.noted.Statements.{stated_denotes}
 use Rattle.bundle_merge_theory.proofs.noted.UsesAgree.{top_means}
+use Rattle.bundle_merge_theory.proofs.form.Bared.{Spells, AllSpell}
+use Rattle.bundle_merge_theory.proofs.form.Keeps.{keeps-form}
 use Rattle.bundle_merge_theory.proofs.noted.Replaces.{MetaIs, replaces_notable}
 use Rattle.bundle_merge_theory.proofs.noted.Spots.{at-spot, around_spot}
 use Rattle.bundle_merge_theory.proofs.noted.StaticReads.{plain_nodes}
@@ -123,6 +125,22 @@ all_kept p list context m kind (o ∷ os) (step ∷ steps) (i ∷ idents) each s
   all_kept p list context m kind os steps idents each.1
       (omega (arith, same)),
 )
+
+-- and spells out what is short where the symbol changes
+step_spells : {p : Program} {list : List ℕ} {context : BundleContexts} {m : ℕ} {kind : ModuleKind}
+    {o : Occurrence} {step : Step} → IsStep p list context m kind o step → Spells step
+step_spells (keeps unused uncalled to) = to.spells
+step_spells (uses used to) = to.spells
+step_spells (calls called to) = to.spells
+
+all_spell : (p : Program) (list : List ℕ) (context : BundleContexts) (m : ℕ) (kind : ModuleKind)
+    (os : List Occurrence) (steps : List Step) → AllZip (IsStep p list context m kind) os steps →
+    AllSpell steps
+all_spell p list context m kind [] [] each = tt
+all_spell p list context m kind [] (step ∷ steps) each = absurd each
+all_spell p list context m kind (o ∷ os) [] each = absurd each
+all_spell p list context m kind (o ∷ os) (step ∷ steps) each =
+    (step_spells each.0, all_spell p list context m kind os steps each.1)
 
 -- ---- `import.meta`
 meta_agrees : (p : Program) (list : List ℕ) (context : BundleContexts) (m : ℕ) →
@@ -234,13 +252,19 @@ told p list context {m = m} {kind = kind} sound reached has_kind statement {made
           top_means p m kind has_kind (meta_meant p m) (default_meant m)
           (listing p list m kind statement its.top set) replaces
           0 form_is.xs [] (plain_nodes form_is.are) form_is.is its.top its.there noted.notes []
-          same.marks source statement its.states
-          (subst (λ s. AgreeInTurn (own_sense p m kind) (inner_bindings (own_view p m kind) 0 statement)
-          (occurrences_from s its.top.items) noted.notes)
-          (sym spot)
-          (subst (λ ds. AgreeInTurn (own_sense p m kind) ds (occurrences_from standing.s its.top.items)
-          noted.notes) (sym inner_is) noted.agrees))
+          same.marks source statement its.states agrees
           (default_means p list m kind statement its.top set);
+      kept_form =
+          keeps-form p m kind (inner_bindings (own_view p m kind) 0 statement) (meta_meant p m)
+          (listing p list m kind statement its.top set) replaces form_is.xs []
+          (plain_nodes form_is.are) form_is.is its.top its.there noted.notes
+          (record {
+            steps = its.steps;
+            meta = meta_ident p list context m;
+            clears_notes = true;
+          }) (default_ident context m) its.given made its.is_given states own_given cover noted.same
+          (all_spell p list context m kind (occurrences_from standing.s its.top.items) its.steps steps_of)
+          (meta_agrees p list context m) statement its.states agrees;
       default =
           λ is.
           default_is_meant p list m kind statement its.top set
@@ -327,6 +351,15 @@ told p list context {m = m} {kind = kind} sound reached has_kind statement {made
 
     spot : spot_before (tree_of p m) its.top.start ≡ standing.s
     spot = ap (spot_before (tree_of p m)) (sym standing.place) ∙ at-spot standing.at
+
+    agrees : AgreeInTurn (own_sense p m kind) (inner_bindings (own_view p m kind) 0 statement)
+        (occurrences_from (spot_before (tree_of p m) its.top.start) its.top.items) noted.notes
+    agrees =
+        subst (λ s. AgreeInTurn (own_sense p m kind) (inner_bindings (own_view p m kind) 0 statement)
+        (occurrences_from s its.top.items) noted.notes)
+        (sym spot)
+        (subst (λ ds. AgreeInTurn (own_sense p m kind) ds (occurrences_from standing.s its.top.items)
+        noted.notes) (sym inner_is) noted.agrees)
 
     replaces : ReplacesNotable (own_sense p m kind) (meta_meant p m)
     replaces =

@@ -31,15 +31,15 @@ use Rattle.bundle_merge_theory.proofs.walked.NameLemmas.{word_names, name_names,
 -- The next step and the next note.
 
 -- the note of the occurrence that has this step
-record First (steps : List Step) (notes : List Note) (step : Step) : Type 0 where
-  note : Note
-  behind : List Note
-  whole : step.whole ≡ note.whole
-  steps_are : steps ≡ step ∷ drop 1 steps
-  notes_are : notes ≡ note ∷ behind
-  rest : Agree (drop 1 steps) behind
+pub record First (steps : List Step) (notes : List Note) (step : Step) : Type 0 where
+  pub note : Note
+  pub behind : List Note
+  pub whole : step.whole ≡ note.whole
+  pub steps_are : steps ≡ step ∷ drop 1 steps
+  pub notes_are : notes ≡ note ∷ behind
+  pub rest : Agree (drop 1 steps) behind
 
-first_of : (steps : List Step) (notes : List Note) (step : Step) → Agree steps notes →
+pub first_of : (steps : List Step) (notes : List Note) (step : Step) → Agree steps notes →
     slice_get steps 0 ≡ Some step → First steps notes step
 first_of [] notes step agree is = cc
 first_of (s ∷ steps) [] step agree is = absurd agree
@@ -377,7 +377,7 @@ meta_stays None (Some meant) p.ImportMeta agree is = absurd agree
 meta_stays (Some ident) meta p.ImportMeta agree is = cc
 meta_stays name meta p.NewTarget agree is = refl
 
-still_stays : (work : Work) (meta : Option Meant) (notes : List Note) → Agree work.steps notes →
+pub still_stays : (work : Work) (meta : Option Meant) (notes : List Note) → Agree work.steps notes →
     AgreeOnMeta work.meta meta → (head : Head) (inside : List Item) →
     stays work head inside ≡ true → d.node_stays meta (d.next_note notes) head inside ≡ true
 still_stays work meta notes agree on_meta h.MemberExpr inside it_stays =
@@ -752,7 +752,7 @@ call_kept {around = around} {work = work} {meta = meta} field name inside found 
     (λ more. d.Inside field h.CallExpr refl (d.Name Anywhere 0 name.0 name.1 r.Reference refl))
     (ap (λ ident. ident ∷ []) (sym found.named))
 
-no_meta : (own : Option Ident) (kind : MetaPropKind) (name : Ident) → AgreeOnMeta own None →
+pub no_meta : (own : Option Ident) (kind : MetaPropKind) (name : Ident) → AgreeOnMeta own None →
     name_for_meta own kind ≡ Some name → ⊥
 no_meta None p.ImportMeta name on_meta found = cc
 no_meta None p.NewTarget name on_meta found = cc

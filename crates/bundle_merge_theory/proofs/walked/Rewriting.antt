@@ -442,7 +442,7 @@ own_lone items own = own_ends [] false items tt own
 -- ---- whole
 
 -- what fits a list that is over is nothing
-none_left : (steps : List Step) (notes : List Note) → Agree steps notes → steps ≡ [] → notes ≡ []
+pub none_left : (steps : List Step) (notes : List Note) → Agree steps notes → steps ≡ [] → notes ≡ []
 none_left steps [] agree over = refl
 none_left [] (note ∷ notes) agree over = absurd agree
 none_left (step ∷ steps) (note ∷ notes) agree over = cc

@@ -15,6 +15,7 @@ use Rattle.bundle_rules.specs.Entries.{has_import_meta}
 use Rattle.bundle_rules.specs.Program.{Program, tree_of}
 use Rattle.bundle_rules.specs.Linking.{Declared}
 use Rattle.bundle_rules.specs.Meaning.{Label, Of, Load, Meta, OwnName, Meant, Inside, Known, Unbound, IsMeant, OwnMeaning, inner_bindings, is_inside, own_view}
+use Rattle.bundle_rules.specs.OwnForms.{KeepsForm}
 use Rattle.bundle_scope_names.proofs.Numbering.{context_of}
 use Rattle.bundle_merge_theory.specs.noted.Marked.{Note}
 use Rattle.bundle_merge_theory.specs.noted.Stated.{declares_default}
@@ -87,7 +88,8 @@ meta_meant p m = if has_import_meta (tree_of p m) then Some (Known (Meta m)) els
 abbrev pub default_meant : ℕ → Meant
 default_meant m = Known (Of (Declared m default_name))
 
--- a statement and what is made of it have the same marks, which are what the statement means
+-- a statement and what is made of it have the same marks, which are what the statement means; and
+-- what is made keeps its form
 pub record IsStatementTold (p : Program) (list : List ℕ) (context : BundleContexts) (m : ℕ)
     (kind : ModuleKind)
     (statement : List Element) (made : List Item)
@@ -102,4 +104,5 @@ pub record IsStatementTold (p : Program) (list : List ℕ) (context : BundleCont
     clears_notes = true;
   }) (meta_meant p m) notes (default_ident context m) (default_meant m) its.given made
   pub means : OwnMeaning p m statement same.marks
+  pub kept_form : KeepsForm p m statement made
   pub default : declares_default its.given ≡ true → IsMeant p (Of (Declared m default_name))

@@ -207,16 +207,16 @@ nameless-none all each t x = by_written (is_written_in all t (plain x)) refl
 
 -- elements of zipped lists
 pub zip-first : {A B : Type 0} (R : A → B → Type 0) (xs : List A) (ys : List B) → AllZip R xs ys → (x : A) → IsIn xs x → (y : B) × IsIn ys y × R x y
-zip-first R [] ys all x at = absurd (none-some x at.1)
-zip-first R (a ∷ xs) [] all x at = absurd all
-zip-first R (a ∷ xs) (b ∷ ys) all x (zero, at) = (b, (0, refl), subst (λ z. R z b) (same_Some a x at) all.0)
-zip-first R (a ∷ xs) (b ∷ ys) all x (suc i, at) = let rest = zip-first R xs ys all.1 x (i, at) in (rest.0, in-rest b ys rest.0 rest.1, rest.2)
+zip-first R [] ys zipped x at = absurd (none-some x at.1)
+zip-first R (a ∷ xs) [] zipped x at = absurd zipped
+zip-first R (a ∷ xs) (b ∷ ys) zipped x (zero, at) = (b, (0, refl), subst (λ z. R z b) (same_Some a x at) zipped.0)
+zip-first R (a ∷ xs) (b ∷ ys) zipped x (suc i, at) = let rest = zip-first R xs ys zipped.1 x (i, at) in (rest.0, in-rest b ys rest.0 rest.1, rest.2)
 
 pub zip-second : {A B : Type 0} (R : A → B → Type 0) (xs : List A) (ys : List B) → AllZip R xs ys → (y : B) → IsIn ys y → (x : A) × IsIn xs x × R x y
-zip-second R xs [] all y at = absurd (none-some y at.1)
-zip-second R [] (b ∷ ys) all y at = absurd all
-zip-second R (a ∷ xs) (b ∷ ys) all y (zero, at) = (a, (0, refl), subst (R a) (same_Some b y at) all.0)
-zip-second R (a ∷ xs) (b ∷ ys) all y (suc i, at) = let rest = zip-second R xs ys all.1 y (i, at) in (rest.0, in-rest a xs rest.0 rest.1, rest.2)
+zip-second R xs [] zipped y at = absurd (none-some y at.1)
+zip-second R [] (b ∷ ys) zipped y at = absurd zipped
+zip-second R (a ∷ xs) (b ∷ ys) zipped y (zero, at) = (a, (0, refl), subst (R a) (same_Some b y at) zipped.0)
+zip-second R (a ∷ xs) (b ∷ ys) zipped y (suc i, at) = let rest = zip-second R xs ys zipped.1 y (i, at) in (rest.0, in-rest a xs rest.0 rest.1, rest.2)
 
 module _ (call : Calling) (move : ℕ → ℕ) (injective : IsInjective move) (os : List Occurrence) (all every : List Declared) (zip : AllZip (IsRecalled call move os) all every) (faithful : IsFaithful call os all) where
   -- names agree afterwards as they did
@@ -412,17 +412,17 @@ recalled-global call move (Bound t n) x e = absurd cc
 
 -- The declarations of such occurrences.
 
-pub declarations-recalled : (call : Calling) (move : ℕ → ℕ) (os l ps : List Occurrence) → ((o : Occurrence) → IsIn l o → IsIn os o) → AllZip (Recalls call move) l ps → AllZip (IsRecalled call move os) (declarations ByContext l) (declarations ByContext ps)
-declarations-recalled call move os [] [] among zip = tt
-declarations-recalled call move os [] (p ∷ ps) among zip = absurd zip
-declarations-recalled call move os (o ∷ l) [] among zip = absurd zip
-declarations-recalled call move os (o ∷ l) (p ∷ ps) among zip = step (declarations-recalled call move os l ps (λ q at. among q (in-rest o l q at)) zip.1)
+pub declarations-recalled : (call : Calling) (move : ℕ → ℕ) (them l ps : List Occurrence) → ((o : Occurrence) → IsIn l o → IsIn them o) → AllZip (Recalls call move) l ps → AllZip (IsRecalled call move them) (declarations ByContext l) (declarations ByContext ps)
+declarations-recalled call move them [] [] among zip = tt
+declarations-recalled call move them [] (p ∷ ps) among zip = absurd zip
+declarations-recalled call move them (o ∷ l) [] among zip = absurd zip
+declarations-recalled call move them (o ∷ l) (p ∷ ps) among zip = step (declarations-recalled call move them l ps (λ q at. among q (in-rest o l q at)) zip.1)
   where
     m : Recalls call move o p
     m = zip.0
 
-    step : AllZip (IsRecalled call move os) (declarations ByContext l) (declarations ByContext ps) → AllZip (IsRecalled call move os) (cons_option (declaration_of ByContext Es o) (declarations ByContext l)) (cons_option (declaration_of ByContext Es p) (declarations ByContext ps))
-    step rest = subst (λ d. AllZip (IsRecalled call move os) (cons_option (declaration_of ByContext Es o) (declarations ByContext l)) (cons_option d (declarations ByContext ps))) (sym its) (by_both (is_binding o.role) (way_of o.path))
+    step : AllZip (IsRecalled call move them) (declarations ByContext l) (declarations ByContext ps) → AllZip (IsRecalled call move them) (cons_option (declaration_of ByContext Es o) (declarations ByContext l)) (cons_option (declaration_of ByContext Es p) (declarations ByContext ps))
+    step rest = subst (λ d. AllZip (IsRecalled call move them) (cons_option (declaration_of ByContext Es o) (declarations ByContext l)) (cons_option d (declarations ByContext ps))) (sym its) (by_both (is_binding o.role) (way_of o.path))
       where
         its : declaration_of ByContext Es p ≡ cond (is_binding o.role) (declared_by p.place (recalled call (named o)) (all_moved move (scopes_around Es o.path)) (way_of o.path)) None
         its =
@@ -432,7 +432,7 @@ declarations-recalled call move os (o ∷ l) (p ∷ ps) among zip = step (declar
             ∙ ap (λ r. cond (is_binding r) (declared_by p.place (recalled call (named o)) (all_moved move (scopes_around Es o.path)) (way_of p.path)) None) m.role
             ∙ ap (λ w. cond (is_binding o.role) (declared_by p.place (recalled call (named o)) (all_moved move (scopes_around Es o.path)) w) None) m.way
 
-        by_both : (b : Bool) (w : Option Way) → AllZip (IsRecalled call move os) (cons_option (cond b (declared_by o.place (named o) (scopes_around Es o.path) w) None) (declarations ByContext l)) (cons_option (cond b (declared_by p.place (recalled call (named o)) (all_moved move (scopes_around Es o.path)) w) None) (declarations ByContext ps))
+        by_both : (b : Bool) (w : Option Way) → AllZip (IsRecalled call move them) (cons_option (cond b (declared_by o.place (named o) (scopes_around Es o.path) w) None) (declarations ByContext l)) (cons_option (cond b (declared_by p.place (recalled call (named o)) (all_moved move (scopes_around Es o.path)) w) None) (declarations ByContext ps))
         by_both false w = rest
         by_both true None = rest
         by_both true (Some way) = (record { of = (o, among o (0, refl), refl); name = refl; by = refl; scopes = refl }, rest)
@@ -498,11 +498,11 @@ find-zip {A = A} {B = B} R p q same (a ∷ xs) (b ∷ ys) zip x e = by_first (p 
     by_first true is found ih = (b, ap (λ c. cond c (Some b) (find q ys)) (same a b zip.0 ∙ is), subst (λ z. R z b) (same_Some a x found) zip.0)
     by_first false is found ih = let rest = ih found in (rest.0, ap (λ c. cond c (Some b) (find q ys)) (same a b zip.0 ∙ is) ∙ rest.1, rest.2)
 
-zip-in : {A B : Type 0} (R : A → B → Type 0) (all xs : List A) (ys : List B) → ((x : A) → IsIn xs x → IsIn all x) → AllZip R xs ys → AllZip (λ x y. IsIn all x × R x y) xs ys
-zip-in R all [] [] among zip = tt
-zip-in R all [] (y ∷ ys) among zip = absurd zip
-zip-in R all (x ∷ xs) [] among zip = absurd zip
-zip-in R all (x ∷ xs) (y ∷ ys) among zip = ((among x (0, refl), zip.0), zip-in R all xs ys (λ z at. among z (in-rest x xs z at)) zip.1)
+zip-in : {A B : Type 0} (R : A → B → Type 0) (those xs : List A) (ys : List B) → ((x : A) → IsIn xs x → IsIn those x) → AllZip R xs ys → AllZip (λ x y. IsIn those x × R x y) xs ys
+zip-in R those [] [] among zip = tt
+zip-in R those [] (y ∷ ys) among zip = absurd zip
+zip-in R those (x ∷ xs) [] among zip = absurd zip
+zip-in R those (x ∷ xs) (y ∷ ys) among zip = ((among x (0, refl), zip.0), zip-in R those xs ys (λ z at. among z (in-rest x xs z at)) zip.1)
 
 -- The rule by other symbols.
 
@@ -526,12 +526,12 @@ abbrev pub taken_by : Numbering → Calling → List Declared → List Occurrenc
 taken_by numbers call all os d x = list_any (λ o. bytes_eq (called_symbol call (named o)) x) os || list_any (λ a. comes_before all a d && bytes_eq (new_symbol numbers call all a) x) all
 
 abbrev pub taken_to_by : Numbering → Calling → List Declared → List Occurrence → Declared → ℕ → Bool
-taken_to_by numbers call all os d zero = true
-taken_to_by numbers call all os d (suc n) = taken_by numbers call all os d (numbered (called_symbol call d.name) (suc n)) && taken_to_by numbers call all os d n
+taken_to_by numbers call those them d zero = true
+taken_to_by numbers call those them d (suc n) = taken_by numbers call those them d (numbered (called_symbol call d.name) (suc n)) && taken_to_by numbers call those them d n
 
 abbrev pub least_free_by : Numbering → Calling → List Declared → List Occurrence → Declared → ℕ → Bool
-least_free_by numbers call all os d zero = false
-least_free_by numbers call all os d (suc n) = not (taken_by numbers call all os d (numbered (called_symbol call d.name) (suc n))) && taken_to_by numbers call all os d n
+least_free_by numbers call those them d zero = false
+least_free_by numbers call those them d (suc n) = not (taken_by numbers call those them d (numbered (called_symbol call d.name) (suc n))) && taken_to_by numbers call those them d n
 
 abbrev pub named_right_by : Numbering → Calling → List Declared → List Occurrence → Declared → Bool
 named_right_by numbers call all os d = cond (may_keep_by numbers call all os d) (keeps numbers all d) (least_free_by numbers call all os d (number_of numbers all d))

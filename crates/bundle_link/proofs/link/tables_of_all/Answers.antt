@@ -6,7 +6,7 @@ use Rattle.std.proofs.lemmas.Option.{slice_get_read}
 use Rattle.std.proofs.lemmas.Result.{err_from_is_err_and}
 use Rattle.bundle_link.specs.Programs.{HasTables}
 use Rattle.bundle_link.specs.declared.transformed.TransformedModule.{TransformedModule}
-use Rattle.bundle_link_index.proofs.ProgramLemmas.{got_there as at_own}
+use Rattle.bundle_link.proofs.ProgramLemmas.{are-faultless}
 use Rattle.bundle_link.proofs.link.tables_of_all.Goals as goal
 
 pub returns-in_err-read-clause-refused : goal.returns-in_err-read-clause-refused
@@ -15,7 +15,15 @@ returns-in_err-read-clause-refused c =
     let one = c.module-item.result in
     let there = slice_get_read all (length all) c.loop-module.module-index one refl (omega arith) c.module-item.is in
     let p = err_from_is_err_and c.from_residual-in_err-read.result c.from_residual-in_err-read.ensures.1 in
-    rw (p.1, p.2) (inr (one, at_own all c.loop-module.module-index one there, c.in_err-read.ensures.refused))
+    rw (p.1, p.2) (inr (record {
+      place = c.loop-module.module-index;
+      its = one;
+      there = there;
+      told = c.in_err-read.ensures.refused;
+      before =
+          are-faultless c.args.config.now (take c.loop-module.module-index all)
+          c.loop-module.tables.items c.loop-module.invariant;
+    }))
 
 pub loop-module-preserved : goal.loop-module-preserved
 loop-module-preserved c =

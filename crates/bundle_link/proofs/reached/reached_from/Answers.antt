@@ -6,8 +6,8 @@ use Rattle.bundle_link.specs.Reached.{LeadsBy}
 use Rattle.bundle_link.proofs.ReachedLemmas as l
 use Rattle.bundle_link.proofs.reached.reached_from.Goals as goal
 
-pub returns : goal.returns
-returns c = λ p w begins inside.
+pub returns-clause-reached : goal.returns-clause-reached
+returns-clause-reached c = λ p w begins inside.
     let files = c.args.files.now in
     let entry = c.args.entry in
     let list = c.in_ok-list.list.items in

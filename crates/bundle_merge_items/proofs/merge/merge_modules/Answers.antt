@@ -17,6 +17,7 @@ returns-clause-merged c = λ q list answers meta count sound parts once answered
       apart = named.1.apart;
       tops = named.1.tops;
       below = λ a holder. subst (λ contexts. named.0 a < position contexts) (sym c.contexts.ensures) (named.1.below a holder);
+      from = named.1.from;
       orders = its.orders;
       items = module_item_lists c.in_ok-tree.tree;
       made = its.made;

@@ -1,61 +1,12 @@
-use Rattle.std.proofs.Common.{◌≡◌, ◌↔◌, ℕ, List, All, Vec, Global, length, map, sym, ap, ◌∙◌, subst}
-use Rattle.std.proofs.lemmas.List.{length-map}
-use Rattle.bundle_order_graph.specs.Bits.{IsEdge, IsEdgeAt, IsWithin}
-use Rattle.bundle_order_graph.specs.Blocks.{BlocksOf, AreBlocks}
-use Rattle.bundle_order_graph.specs.Classes.{Leads, AreRanks, AreWithin}
-use Rattle.bundle_order_graph.specs.Ranked.{AreAlike}
-use Rattle.bundle_order_graph.proofs.NodeLemmas.{if_ok}
-use Rattle.bundle_order_graph.proofs.CycleLemmas.{edges_within}
-use Rattle.bundle_order_graph.proofs.ClassLemmas.{blocks_by_ranks, edges_inside}
+-- The blocks are those of the list that is made.
+use Rattle.std.proofs.Common.{map, nat_eq, subst, sym}
+use Rattle.std.specs.List.{IsDistinct}
+use Rattle.std.proofs.lemmas.Result.{IfOk-weaker}
+use Rattle.bundle_order_graph.specs.Order.{IsOrder}
 use Rattle.bundle_order_graph.proofs.graph.cycles.Goals as goal
 
-abbrev ends_in : List (Vec ℕ Global) → List (List ℕ)
-ends_in lists = map (λ v. v.items) lists
-
-pub ends_of-requires : goal.ends_of-requires
-ends_of-requires c =
-    let g = c.args.graph.now in
-    let list = c.deref.result.now in
-    let pairs = c.in_ok-pairs.pairs.items in
-    let len : length list ≡ c.len.result = c.deref.ensures.len ∙ sym c.len.ensures in
-    subst (λ (l : List (ℕ × ℕ)). All (IsWithin c.len.result) l) (sym c.deref-2.ensures.value) (edges_within g list pairs c.in_ok-pairs.ensures c.len.result len)
-
-pub ranks_of-requires : goal.ranks_of-requires
-ranks_of-requires c =
-    let g = c.args.graph.now in
-    let list = c.deref.result.now in
-    let pairs = c.in_ok-pairs.pairs.items in
-    let edges = c.in_ok-edges.edges.items in
-    let same : (i j : ℕ) → Leads (ends_in edges) i j ↔ IsEdge pairs i j = subst (λ (l : List (ℕ × ℕ)). (i j : ℕ) → Leads (ends_in edges) i j ↔ IsEdge l i j) c.deref-2.ensures.value c.in_ok-edges.ensures.exact in
-    let len : length (ends_in edges) ≡ length list = length-map edges (λ v. v.items) ∙ (c.in_ok-edges.ensures.len ∙ (c.len.ensures ∙ sym c.deref.ensures.len)) in
-    record { within = subst (λ (l : List (Vec ℕ Global)). AreWithin (ends_in l)) (sym c.deref-3.ensures.value) (edges_inside g list pairs c.in_ok-pairs.ensures (ends_in edges) len same) }
-
-pub blocks_of-requires-clause-within : goal.blocks_of-requires-clause-within
-blocks_of-requires-clause-within c =
-    let g = c.args.graph.now in
-    let list = c.deref.result.now in
-    let pairs = c.in_ok-pairs.pairs.items in
-    let edges = c.in_ok-edges.edges.items in
-    let same : (i j : ℕ) → Leads (ends_in edges) i j ↔ IsEdge pairs i j = subst (λ (l : List (ℕ × ℕ)). (i j : ℕ) → Leads (ends_in edges) i j ↔ IsEdge l i j) c.deref-2.ensures.value c.in_ok-edges.ensures.exact in
-    let len : length (ends_in edges) ≡ length list = length-map edges (λ v. v.items) ∙ (c.in_ok-edges.ensures.len ∙ (c.len.ensures ∙ sym c.deref.ensures.len)) in
-    subst (λ (l : List (Vec ℕ Global)). AreWithin (ends_in l)) (sym c.deref-4.ensures.value) (edges_inside g list pairs c.in_ok-pairs.ensures (ends_in edges) len same)
+pub cycles_on-requires : goal.cycles_on-requires
+cycles_on-requires c = subst (IsDistinct nat_eq) (sym c.deref.ensures.value) c.in_ok-list.ensures.once
 
 pub returns : goal.returns
-returns c =
-    let g = c.args.graph.now in
-    let list = c.in_ok-list.list.items in
-    let pairs = c.in_ok-pairs.pairs.items in
-    let edges = c.in_ok-edges.edges.items in
-    let ranks = c.in_ok-ranks.ranks.items in
-    let exact : (i j : ℕ) → IsEdge pairs i j ↔ IsEdgeAt g list i j = subst (λ (l : List ℕ). (i j : ℕ) → IsEdge pairs i j ↔ IsEdgeAt g l i j) c.deref.ensures.value c.in_ok-pairs.ensures in
-    let same : (i j : ℕ) → Leads (ends_in edges) i j ↔ IsEdge pairs i j = subst (λ (l : List (ℕ × ℕ)). (i j : ℕ) → Leads (ends_in edges) i j ↔ IsEdge l i j) c.deref-2.ensures.value c.in_ok-edges.ensures.exact in
-    let len : length (ends_in edges) ≡ length list = length-map edges (λ v. v.items) ∙ (c.in_ok-edges.ensures.len ∙ (c.len.ensures ∙ (sym c.deref.ensures.len ∙ ap length c.deref.ensures.value))) in
-    let ranked : AreRanks (ends_in edges) ranks = subst (λ (l : List (Vec ℕ Global)). AreRanks (ends_in l) ranks) c.deref-3.ensures.value c.in_ok-ranks.ensures in
-    let e = c.deref-4.result.now in
-    let r = c.deref-5.result.now in
-    let l = c.deref-6.result.now in
-    if_ok c.blocks_of.result (λ b. BlocksOf (AreAlike (ends_in e) r l) l l (map (λ b. b.items) b.items)) (λ b. AreBlocks g c.args.entry (map (λ b. b.items) b.items))
-    (λ b h. blocks_by_ranks g c.args.entry list c.in_ok-list.ensures pairs exact (ends_in edges) len same ranks ranked (map (λ b. b.items) b.items)
-    (subst (λ (k : List ℕ). BlocksOf (AreAlike (ends_in edges) ranks k) k k (map (λ b. b.items) b.items)) c.deref-6.ensures.value
-    (subst (λ (q : List ℕ). BlocksOf (AreAlike (ends_in edges) q l) l l (map (λ b. b.items) b.items)) c.deref-5.ensures.value
-    (subst (λ (d : List (Vec ℕ Global)). BlocksOf (AreAlike (ends_in d) r l) l l (map (λ b. b.items) b.items)) c.deref-4.ensures.value h)))) c.blocks_of.ensures
+returns c = IfOk-weaker c.cycles_on.result _ _ (λ blocks are. are c.args.entry (subst (IsOrder c.args.graph.now c.args.entry) (sym c.deref.ensures.value) c.in_ok-list.ensures)) c.cycles_on.ensures

@@ -7,7 +7,7 @@ use Rattle.bundle_order_sort.proofs.plan.plan_asked.Goals as goal
 pub returns-then-in_standard_order : goal.returns-then-in_standard_order
 returns-then-in_standard_order c =
     IfOk-weaker c.plan_of_each.result _ _
-    (λ plan each. record {
+    (λ plan each entry order. record {
       by_requests = λ needs. absurd (false≢true (sym needs ∙ c.if-in_standard_order.true));
       of_each = λ asked. each;
     })
@@ -15,9 +15,9 @@ returns-then-in_standard_order c =
 
 pub returns-else-in_standard_order : goal.returns-else-in_standard_order
 returns-else-in_standard_order c =
-    IfOk-weaker c.plan_of.result _ _
-    (λ plan its. record {
-      by_requests = λ needs. its;
+    IfOk-weaker c.plan_on.result _ _
+    (λ plan its entry order. record {
+      by_requests = λ needs. its entry order;
       of_each = λ asked. absurd (false≢true (sym c.if-in_standard_order.false ∙ asked));
     })
-    c.plan_of.ensures
+    c.plan_on.ensures

@@ -20,12 +20,12 @@ returns-in_ok-link_refusal-in-Some-get c =
     record {
       refused =
           c.in_ok-link_refusal-in-Some-get.ensures.named (module_files c.args.self.now.modules.items) (subst (λ l. Contains (module_files l) (name_of one.file_name)) c.deref.ensures.value among);
-      told = λ p w once.
+      told = λ p sound.
           subst (λ o. IfSome o (λ fault. IsChecked p (Some fault))) (sym c.in_ok-link_refusal-in-Some-get.ensures.told)
-          (fault_checked p c.args.self.now w c.fault.result c.in-Some.fault c.in-Some.is (c.fault.ensures p w.linked (are_modules p c.args.self.now w once)) one
+          (fault_checked p c.args.self.now sound.of c.fault.result c.in-Some.fault c.in-Some.is (c.fault.ensures p sound.of.linked (are_modules p c.args.self.now sound)) one
           (ap (λ (l : List TransformedModule). slice_get l c.in-Some.fault.which) (sym c.deref.ensures.value) ∙ there));
     }
 
 pub returns-in_default-clause-told : goal.returns-in_default-clause-told
-returns-in_default-clause-told c = λ p w once.
-    none_checked p c.args.self.now w c.fault.result (is_none c.fault.result c.in_default.not-Some) (c.fault.ensures p w.linked (are_modules p c.args.self.now w once))
+returns-in_default-clause-told c = λ p sound.
+    none_checked p c.args.self.now sound.of c.fault.result (is_none c.fault.result c.in_default.not-Some) (c.fault.ensures p sound.of.linked (are_modules p c.args.self.now sound))

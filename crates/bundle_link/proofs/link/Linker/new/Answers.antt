@@ -22,6 +22,9 @@ returns-in_err-config-clause-refused c =
     let p = err_from_is_err_and c.from_residual-in_err-config.result c.from_residual-in_err-config.ensures.1 in
     rw (p.1, p.2) (inl refl)
 
+pub returns-in_err-config-clause-sound : goal.returns-in_err-config-clause-sound
+returns-in_err-config-clause-sound c = IfOk-from_err _ _ c.from_residual-in_err-config.ensures.0
+
 pub returns-clause-linked : goal.returns-clause-linked
 returns-clause-linked c = λ p w.
     let modules = c.args.modules.items in
@@ -43,3 +46,6 @@ returns-clause-linked c = λ p w.
       trees = trees_of p c.args.modules.items c.args.config.now c.args.entry w;
       files = files_at p c.args.modules.items c.args.config.now c.args.entry c.in_ok-linked.linked.ids.keys w ids;
     }
+
+pub returns-clause-sound : goal.returns-clause-sound
+returns-clause-sound c = λ p w once. record { of = returns-clause-linked c p w; once = once }

@@ -5,7 +5,7 @@ use Rattle.bundle_link_index.specs.Programs.{IsLinkProgram}
 use Rattle.bundle_link_index.specs.declared.target.LinkModule.{LinkModule}
 use Rattle.bundle_link_targets.specs.Linked.{HandsOver, IsJudgedBy}
 use Rattle.bundle_link.specs.Judged.{numbers_below}
-use Rattle.bundle_link.proofs.link.Linker.linking_of.Goals as goal
+use Rattle.bundle_link.proofs.merging.linking_of.Goals as goal
 
 -- what is handed on is what was handed in
 handed : (q : Program) (modules : List LinkModule) (listed list : List ℕ) (entry at : ℕ) (require asked : Bool) → list ≡ listed → at ≡ entry → asked ≡ require → IsLinkProgram q modules listed entry require → IsLinkProgram q modules list at asked
