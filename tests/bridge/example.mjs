@@ -1,10 +1,10 @@
-// The example of the repository's README: its files, the document that the program is run on, and the bundle.
+// The example of the bridge's README: its files, the document that the program is run on, and the bundle.
 import fs from 'node:fs';
 import path from 'node:path';
 import { moduleOf } from '../../bridge/read.mjs';
 import { bundled, check, deepEqual, equal, fileOf, top } from './check.mjs';
 
-const readme = fs.readFileSync(path.join(top, 'README.md'), 'utf8');
+const readme = fs.readFileSync(path.join(top, 'bridge', 'README.md'), 'utf8');
 const [sources, bundle] = [...readme.matchAll(/```js\n(.*?)```/gs)].map(([, text]) => text);
 const [, main, imported] = /^\/\/ main\.js\n(.*)^\/\/ a\.js\n(.*)/ms.exec(sources);
 const file = fileOf('main.js', main);

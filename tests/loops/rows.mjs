@@ -121,6 +121,25 @@ const numbered = { name: 'contexts of a graph', config: { disable_hygiene: true 
   // const f = (p) => { return p + x; }; use(g, f, mod, importMeta.url); export { f as h };
   names: '+x#4 +g#4 +p.1 +q.1 p.1 q.1 +mod.1 g#4 x#4 +importMeta.1 +f#2 +p.2 p.2 x#4 use#1 g#4 f#2 mod.1 importMeta.1 f#2' };
 
+// Words of the command, over files in memory. `ends` is what Node and a reader of the bundle expect, made by hand.
+const at = (files) => Object.entries(files).map(([path, text]) => [`/work/${path}`, text]);
+const command = ({ texts = {}, typed = '', status = 0, printed = '', stored = {}, told = '', ...row }) =>
+  ({ ...row, texts: at(texts), typed, ends: { status, printed, stored: Object.entries(stored), told } });
+const two = { 'main.mjs': `import { x } from './a.mjs';\nf(x);\n`, 'a.mjs': `export const x = 1;\n` };
+const commands = [
+  { name: 'a bundle to the standard output', words: ['main.mjs'], texts: two, printed: `const x = 1;\nf(x);\n` },
+  { name: 'two bundles into a folder', words: ['main.mjs', 'a.mjs', '--outdir=d/'], texts: two,
+    stored: { 'd/main.mjs': `const x = 1;\nf(x);\n`, 'd/a.mjs': `const x = 1;\nexport { x as x };\n` }, told: '2 modules, 2 files' },
+  { name: 'the standard input as a script, over a package', words: ['-', '--outfile', 'b.js', '--format=iife'], typed: `import { p } from 'p';\nf(p);\n`,
+    texts: { 'node_modules/p/package.json': `{"type": "module", "exports": "./p.js"}`, 'node_modules/p/p.js': `export const p = 2;\n` },
+    stored: { 'b.js': `(function() {\n  "use strict";\n  const p = 2;\n  f(p);\n  return {};\n})();\n` } },
+  { name: 'a name that nobody exports', words: ['main.mjs', '-o', 'b.mjs', '--color=always'], texts: { ...two, 'a.mjs': `export const y = 1;\n` }, status: 1, told: 'a.mjs has no export "x"' },
+  { name: 'an input that would be written over', words: ['main.mjs', '-o', '/work/a.mjs'], texts: two, status: 1, told: '/work/a.mjs is an input' },
+  { name: 'a file that is not there', words: ['none.mjs', '-o', 'b.mjs'], texts: two, status: 1, told: 'none.mjs' },
+  { name: 'an option that there is not', words: ['main.mjs', '--formt=iife'], texts: two, status: 2, told: 'did you mean --format?' },
+  { name: 'the version', words: ['--version'], printed: '0.1.0\n' },
+].map(command);
+
 const of = (kind) => (row) => ({ kind, ...row });
 export const rows = [
   ...calls.map(of('calls')), ...noted.map(of('calls')),
@@ -129,4 +148,5 @@ export const rows = [
   ...Object.entries(unchanged.gives).map(([call, gives]) => of('unchanged')({ ...unchanged, name: call, call, gives })), of('quiet')({ name: 'calls that take no memory', modules: linked }), of('public')({ name: 'calls on names and kinds' }),
   of('numbered')(numbered),
   of('streams')({ ...clash, name: 'streams that fail' }), of('program')({ ...twoHooks, name: 'memory for the program' }),
+  ...commands.map(of('commands')),
 ];

@@ -82,8 +82,8 @@ fn line_of(alloc: Global, refusal: &Error) -> Result<String, AllocError>
     format!(in alloc; "error {number}: {name}\n")
 }
 
-// The text of the bundles that a document asks for.
-fn answer_text(alloc: Global, document: Document, hook: Box<dyn Hook>) -> Result<String, Error>
+/// The text of the bundles that a document asks for, or why there are none.
+pub fn answer_text(alloc: Global, document: Document, hook: Box<dyn Hook>) -> Result<String, Error>
     ensures made { IfOk result (λ text.
         IsDocumentAnswer (may_give hook) (may_fail_hook hook) document (string_bytes text)) }
     ensures refused { IfErr result (IsDocumentRefusal (may_give hook) (may_fail_hook hook) document) }

@@ -16,7 +16,7 @@ mod text;
 mod values;
 mod writing;
 
-pub use answering::answer;
+pub use answering::{answer, answer_text};
 pub use document::Document;
 pub use input::{Input, InputError};
 pub use output::Output;

@@ -1,0 +1,10 @@
+use Rattle.std.proofs.Common.{◌-◌, drop, length, map}
+use Rattle.bundle_syntax.specs.Item.{item_of}
+use Rattle.gutsirava_bundle.proofs.CommentLemmas.{LeavesSoFar}
+use Rattle.gutsirava_bundle.proofs.output.without_comments.Given as goal
+
+abbrev pub invariant-loop-at : goal.invariant-loop-at
+invariant-loop-at l = LeavesSoFar (map item_of l.listed) (map item_of l.pieces.items) (map item_of (drop l.at l.listed))
+
+abbrev pub decreases-loop-at : goal.decreases-loop-at
+decreases-loop-at l = length l.initial.listed - l.at

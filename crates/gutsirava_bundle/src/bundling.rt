@@ -1,0 +1,440 @@
+//! Files to bundles.
+
+ghost use Rattle.std.specs.Prelude.{◌≡◌, ◌<◌, ◌≤◌, ◌++◌, ◌∷◌, [], map, length, string_bytes, IfOk, MatchOption, OnOk};
+ghost use Rattle.std.specs.List.{AllZip};
+ghost use Rattle.bundler_call.specs.Answer.{answer_told};
+ghost use Rattle.bundler_call.specs.Kept.{entry_of, settings_of};
+ghost use Rattle.gutsirava_bundle.specs.declared.bundling.Root.{Root};
+ghost use Rattle.gutsirava_bundle.specs.Command.{link_settings, module_type, HasTextOf, IsCommandAnswer, IsLinked};
+ghost use Rattle.gutsirava_bundle.specs.Linking.{trees_in, BeginsAt, HasNameOf, IsLinkAnswer, IsRootOf};
+ghost use Rattle.gutsirava_bundle.specs.Parties.{gives_nothing, fails_nowhere};
+
+use crate::facade::Facade;
+use crate::graph::{FoundUnit, Graph};
+use crate::message::Messages;
+use crate::output::{BundleFrame, text_of};
+use crate::parties::{KeyResolver, NoMeta, UnitLoader, file_of};
+use crate::progress::ProgressListener;
+use crate::settings::{BundleEntry, BundleSettings, OutputFormat};
+use crate::unit::BundleUnit;
+use bundle_tree::hook::Hook;
+use bundle_tree_ast::Module;
+use bundle_tree_names::config::{Config, ModuleType};
+use bundle_tree_names::error::Error;
+use bundle_tree_names::file_name::FileName;
+use bundler_call::{Bundle, Bundler, OrderedConfig};
+use gutsirava_resolve::{FileSystem, Resolver};
+use gutsirava_sources::{SourceKind, hashbang_of};
+use std::alloc::{AllocError, Global};
+use std::collections::BTreeSet;
+
+/// The text of a bundle.
+#[derive(Drop)]
+pub struct BundleText {
+    /// What its entry calls it.
+    pub name: String,
+    pub text: String,
+}
+
+/// What comes of entries.
+#[derive(Drop)]
+pub struct Bundled {
+    /// A text for each entry, in their order; none where an error is told.
+    pub outputs: Vec<BundleText>,
+    /// The paths of the files that were read.
+    pub inputs: Vec<String>,
+    pub messages: Messages,
+}
+
+/// An entry that was found.
+#[derive(Drop)]
+struct Root {
+    name: String,
+    /// The module with which the bundle begins, and that of the file.
+    unit: usize,
+    file: usize,
+    hashbang: Option<String>,
+}
+
+/// Bundles entries with all that they need, and tells how far it is. Refused only for memory: all else that is wrong is
+/// told.
+pub fn bundle_entries<F: FileSystem + Drop, P: ProgressListener>(
+    alloc: Global,
+    files: F,
+    resolver: Resolver<F>,
+    entries: Vec<BundleEntry>,
+    settings: &BundleSettings,
+    progress: &mut P,
+) -> Result<Bundled, AllocError>
+    ensures none { IfOk result (λ it. 0 < it.messages.errors → it.outputs.items ≡ []) }
+    ensures answers { IfOk result (λ it. it.messages.errors ≡ 0 →
+        IsCommandAnswer settings.now entries.items it.outputs.items) }
+{
+    let mut graph = Graph::new(alloc, files, resolver, settings);
+    let roots = roots_of(&mut graph, entries)?;
+    graph.read_all(progress)?;
+    let outputs = outputs_of(&mut graph, settings, roots.as_slice(), progress)?;
+    let bundled = finish(alloc, graph, outputs)?;
+    Ok(bundled)
+}
+
+// The texts of bundles, where all was read.
+fn outputs_of<F: FileSystem + Drop, P: ProgressListener>(
+    graph: &mut Graph<'_, F>,
+    settings: &BundleSettings,
+    roots: &[Root],
+    progress: &mut P,
+) -> Result<Vec<BundleText>, AllocError>
+    ensures grows { graph.old.messages.errors ≤ graph.new.messages.errors }
+    ensures answer { IfOk result (λ outputs. graph.new.messages.errors ≡ 0 →
+        IsLinkAnswer settings.now roots.now outputs.items) }
+{
+    let alloc = graph.alloc;
+    if graph.messages.errors > 0 {
+        return Ok(Vec::new(alloc));
+    }
+    let begins = files_of(alloc, roots)?;
+    graph.tell_circles(begins.as_slice())?;
+    progress.begins_to_link();
+    link(graph, settings, roots)
+}
+
+// The modules of the files of entries.
+fn files_of(alloc: Global, roots: &[Root]) -> Result<Vec<usize>, AllocError> {
+    let mut files = Vec::with_capacity(alloc, roots.len())?;
+    for root in roots {
+        files.push(root.file)?;
+    }
+    Ok(files)
+}
+
+// Finds the files of entries, each of which may be given once.
+fn roots_of<F: FileSystem + Drop>(
+    graph: &mut Graph<'_, F>,
+    entries: Vec<BundleEntry>,
+) -> Result<Vec<Root>, AllocError>
+    ensures { IfOk result (λ roots. graph.new.messages.errors ≡ 0 →
+        AllZip IsRootOf entries.items roots.items) }
+{
+    let mut roots = Vec::new(graph.alloc);
+    for entry in entries {
+        add_root(graph, &mut roots, entry)?;
+    }
+    mark_main(graph.units.as_mut_slice(), roots.as_slice());
+    Ok(roots)
+}
+
+// Finds the file of an entry, which may be given once.
+fn add_root<F: FileSystem + Drop>(
+    graph: &mut Graph<'_, F>,
+    roots: &mut Vec<Root>,
+    entry: BundleEntry,
+) -> Result<(), AllocError>
+    ensures grows { graph.old.messages.errors ≤ graph.new.messages.errors }
+    ensures added { OnOk result (graph.new.messages.errors ≡ 0 →
+        (root : Root) × (roots.new.items ≡ roots.old.items ++ root ∷ []) × IsRootOf entry root) }
+{
+    let Some(root) = find(graph, entry)? else {
+        return Ok(());
+    };
+    if roots.iter().any(|other: &Root| other.unit == root.unit) {
+        let alloc = graph.alloc;
+        let name = &root.name;
+        let why = format!(in alloc; "the entry {name:?} is given twice")?;
+        return graph.messages.error(why, None, Vec::new(alloc));
+    }
+    roots.push(root)?;
+    Ok(())
+}
+
+// Marks the module of the file with which the one bundle begins.
+fn mark_main(units: &mut [BundleUnit], roots: &[Root]) {
+    if roots.len() == 1
+        && let Some(root) = roots.first()
+        && let Some(unit) = units.get_mut(root.file)
+    {
+        unit.is_main = true;
+    }
+}
+
+// What is told of all that was done; where that is an error, no text.
+fn finish<F: FileSystem + Drop>(
+    alloc: Global,
+    graph: Graph<'_, F>,
+    outputs: Vec<BundleText>,
+) -> Result<Bundled, AllocError>
+    ensures told { IfOk result (λ it. it.messages ≡ graph.entry.messages) }
+    ensures none { IfOk result (λ it. 0 < it.messages.errors → it.outputs.items ≡ []) }
+    ensures same { IfOk result (λ it. it.messages.errors ≡ 0 → it.outputs ≡ outputs) }
+{
+    let inputs = paths_of(alloc, graph.units.as_slice())?;
+    let Graph { messages, .. } = graph;
+    let outputs = unless_faults(alloc, messages.errors, outputs);
+    Ok(Bundled {
+        outputs,
+        inputs,
+        messages,
+    })
+}
+
+// The paths of the files among modules.
+fn paths_of(alloc: Global, units: &[BundleUnit]) -> Result<Vec<String>, AllocError> {
+    let mut paths = Vec::new(alloc);
+    for unit in units {
+        if let Some(path) = unit.path() {
+            paths.push(String::from_str(alloc, path)?)?;
+        }
+    }
+    Ok(paths)
+}
+
+// The texts, where there are no errors.
+fn unless_faults(alloc: Global, errors: usize, outputs: Vec<BundleText>) -> Vec<BundleText>
+    ensures none { 0 < errors → result.items ≡ [] }
+    ensures same { errors ≡ 0 → result ≡ outputs }
+{
+    if errors > 0 { Vec::new(alloc) } else { outputs }
+}
+
+// Finds the file of an entry. A CommonJS module has one in front that exports what it exports.
+fn find<F: FileSystem + Drop>(
+    graph: &mut Graph<'_, F>,
+    entry: BundleEntry,
+) -> Result<Option<Root>, AllocError>
+    ensures grows { graph.old.messages.errors ≤ graph.new.messages.errors }
+    ensures told { IfOk result (λ found.
+        MatchOption found (0 < graph.new.messages.errors) (IsRootOf entry)) }
+{
+    let alloc = graph.alloc;
+    let BundleEntry { name, path, text } = entry;
+    let Some(text) = entry_text(graph, path.as_str(), text)? else {
+        return Ok(None);
+    };
+    let hashbang = match hashbang_of(text.as_str()) {
+        Some(line) => Some(String::from_str(alloc, line)?),
+        None => None,
+    };
+    let file = match entry_file(graph, path, text)? {
+        FoundUnit::Unit(file) => file,
+        FoundUnit::Unread(why) => {
+            graph.messages.error(why, None, Vec::new(alloc))?;
+            return Ok(None);
+        }
+    };
+    let unit = match graph.kind_of(file) {
+        SourceKind::EcmaScript => file,
+        SourceKind::CommonJs => graph.facade(file, Facade::NodeDefault)?,
+    };
+    Ok(Some(Root {
+        name,
+        unit,
+        file,
+        hashbang,
+    }))
+}
+
+// The module of the file of an entry.
+fn entry_file<F: FileSystem + Drop>(
+    graph: &mut Graph<'_, F>,
+    path: String,
+    text: String,
+) -> Result<FoundUnit, AllocError>
+    ensures { graph.old.messages.errors ≤ graph.new.messages.errors }
+{
+    match graph.known(path.as_str()) {
+        Some(unit) => Ok(FoundUnit::Unit(unit)),
+        None => graph.add_file(path.as_str(), path.clone()?, text),
+    }
+}
+
+// The text of an entry: the one that is given, or that of the file.
+fn entry_text<F: FileSystem + Drop>(
+    graph: &mut Graph<'_, F>,
+    path: &str,
+    given: Option<String>,
+) -> Result<Option<String>, AllocError>
+    ensures grows { graph.old.messages.errors ≤ graph.new.messages.errors }
+    ensures told { IfOk result (λ text.
+        MatchOption text (0 < graph.new.messages.errors) (λ _. Unit {0})) }
+{
+    if given.is_some() {
+        return Ok(given);
+    }
+    let alloc = graph.alloc;
+    match graph.files.read(alloc, path) {
+        Ok(text) => Ok(Some(text)),
+        Err(cause) => {
+            let shown = graph.shown(path)?;
+            let why = format!(in alloc; "{shown} cannot be read: {cause}")?;
+            graph.messages.error(why, None, Vec::new(alloc))?;
+            Ok(None)
+        }
+    }
+}
+
+// Links the modules that were read.
+fn link<F: FileSystem + Drop>(
+    graph: &mut Graph<'_, F>,
+    settings: &BundleSettings,
+    roots: &[Root],
+) -> Result<Vec<BundleText>, AllocError>
+    ensures grows { graph.old.messages.errors ≤ graph.new.messages.errors }
+    ensures answer { IfOk result (λ outputs. graph.new.messages.errors ≡ 0 →
+        IsLinkAnswer settings.now roots.now outputs.items) }
+{
+    let alloc = graph.alloc;
+    let entries = link_entries(alloc, roots)?;
+    let linked = bundles(graph, settings, entries)?;
+    let bundles = match linked {
+        Ok(bundles) => bundles,
+        Err(error) => {
+            graph.tell_refusal(&error)?;
+            return Ok(Vec::new(alloc));
+        }
+    };
+    let outputs = texts_of(alloc, settings, roots, bundles.as_slice())?;
+    Ok(outputs)
+}
+
+// The entries of bundles that begin with these modules, called by their numbers. Names of bundles do not show in them.
+fn link_entries(alloc: Global, roots: &[Root]) -> Result<Vec<(String, FileName)>, AllocError>
+    ensures { IfOk result (λ entries. AllZip BeginsAt roots.now entries.items) }
+{
+    let mut entries = Vec::new(alloc);
+    for root in roots {
+        let unit = root.unit;
+        let name = format!(in alloc; "{unit}")?;
+        entries.push((name, file_of(alloc, unit)?))?;
+    }
+    Ok(entries)
+}
+
+// The texts of bundles, each called as its entry.
+fn texts_of(
+    alloc: Global,
+    settings: &BundleSettings,
+    roots: &[Root],
+    bundles: &[Bundle],
+) -> Result<Vec<BundleText>, AllocError>
+    ensures texts { IfOk result (λ outputs. length bundles.now ≡ length roots.now →
+        AllZip (HasTextOf settings.now) bundles.now outputs.items) }
+    ensures names { IfOk result (λ outputs. length bundles.now ≡ length roots.now →
+        AllZip HasNameOf roots.now outputs.items) }
+{
+    let mut outputs = Vec::new(alloc);
+    for (bundle, root) in bundles.iter().zip(roots) {
+        outputs.push(output_of(alloc, settings, bundle, root)?)?;
+    }
+    Ok(outputs)
+}
+
+// The text of a bundle.
+#[tactic(auto, using(std::proofs::lemmas::Grind::common_steps, crate::proofs::Answering::text_of_bundle))]
+fn output_of(
+    alloc: Global,
+    settings: &BundleSettings,
+    bundle: &Bundle,
+    root: &Root,
+) -> Result<BundleText, AllocError>
+    ensures text { IfOk result (HasTextOf settings.now bundle.now) }
+    ensures name { IfOk result (HasNameOf root.now) }
+{
+    let frame = BundleFrame {
+        hashbang: root.hashbang.as_ref().map(|line| line.as_str()),
+        is_common_js: root.unit != root.file,
+    };
+    let text = text_of(alloc, &bundle.module, settings, frame)?;
+    let name = root.name.clone()?;
+    Ok(BundleText { name, text })
+}
+
+// What the linker makes of the modules.
+fn bundles<F: FileSystem + Drop>(
+    graph: &mut Graph<'_, F>,
+    settings: &BundleSettings,
+    entries: Vec<(String, FileName)>,
+) -> Result<Result<Vec<Bundle>, Error>, AllocError>
+    ensures same { graph.new.messages ≡ graph.old.messages }
+    ensures linked { IfOk result (λ answer. IsLinked gives_nothing fails_nowhere
+        (link_settings settings.now (map string_bytes graph.old.externals.keys))
+        (trees_in graph.old.units.items) (map entry_of entries.items) (answer_told answer)) }
+{
+    let alloc = graph.alloc;
+    let config = config_of(alloc, settings, &graph.externals)?;
+    let trees = trees_of(alloc, graph.units.as_mut_slice())?;
+    let hook = Box::new(alloc, NoMeta)?;
+    let order = settings.in_standard_order;
+    Ok(linked(alloc, trees, config, order, hook, entries))
+}
+
+// What the linker makes of trees.
+fn linked(
+    alloc: Global,
+    trees: Vec<Option<Module>>,
+    config: Config,
+    in_standard_order: bool,
+    hook: Box<dyn Hook>,
+    entries: Vec<(String, FileName)>,
+) -> Result<Vec<Bundle>, Error>
+    ensures { IsLinked (may_give hook) (may_fail_hook hook)
+        (settings_of (record { base = config; in_standard_order = in_standard_order }))
+        trees.items (map entry_of entries.items) (answer_told result) }
+{
+    let loader = UnitLoader { trees };
+    let config = OrderedConfig {
+        base: config,
+        in_standard_order,
+    };
+    let bundler = Bundler::with_order(alloc, loader, KeyResolver, config, hook);
+    bundler.into_bundles(alloc, entries)
+}
+
+// The linker's settings.
+fn config_of(
+    alloc: Global,
+    settings: &BundleSettings,
+    externals: &BTreeSet<String>,
+) -> Result<Config, AllocError>
+    ensures { IfOk result (λ config.
+        settings_of (record { base = config; in_standard_order = settings.now.in_standard_order })
+        ≡ link_settings settings.now (map string_bytes externals.now.keys)) }
+{
+    let mut config = Config::new(alloc);
+    config.require = true;
+    config.module = module_type_of(settings.format);
+    config.external_modules = copies_of(alloc, externals)?;
+    Ok(config)
+}
+
+// What the linker writes a bundle as.
+fn module_type_of(format: OutputFormat) -> ModuleType
+    ensures { result ≡ module_type format }
+{
+    match format {
+        OutputFormat::Module => ModuleType::Es,
+        OutputFormat::Iife => ModuleType::Iife,
+    }
+}
+
+// Texts, copied.
+fn copies_of(alloc: Global, texts: &BTreeSet<String>) -> Result<Vec<String>, AllocError>
+    ensures { IfOk result (λ copies.
+        map string_bytes copies.items ≡ map string_bytes texts.now.keys) }
+{
+    let mut copies = Vec::with_capacity(alloc, texts.len())?;
+    for text in texts {
+        copies.push(text.clone()?)?;
+    }
+    Ok(copies)
+}
+
+// The trees of modules, which are taken from them.
+fn trees_of(alloc: Global, units: &mut [BundleUnit]) -> Result<Vec<Option<Module>>, AllocError>
+    ensures { IfOk result (λ trees. trees.items ≡ trees_in units.old) }
+{
+    let mut trees = Vec::with_capacity(alloc, units.len())?;
+    for unit in units.iter_mut() {
+        trees.push(unit.tree.take())?;
+    }
+    Ok(trees)
+}

@@ -1,0 +1,26 @@
+//! Files to bundles: finds the modules that entries need, hands their trees to the linker, and writes what it gives.
+#![tactic(auto)]
+
+mod between;
+mod bond;
+mod bundling;
+mod cycles;
+mod facade;
+mod faults;
+mod graph;
+mod link;
+mod message;
+mod missing;
+mod output;
+mod parties;
+mod progress;
+mod reading;
+mod settings;
+mod spot;
+mod tables;
+mod unit;
+
+pub use bundling::{BundleText, Bundled, bundle_entries};
+pub use message::Messages;
+pub use progress::ProgressListener;
+pub use settings::{BundleEntry, BundleSettings, Charset, OutputFormat};

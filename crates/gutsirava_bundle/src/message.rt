@@ -1,0 +1,75 @@
+//! What is told of a bundle.
+
+ghost use Rattle.std.specs.Prelude.{◌≡◌, ◌<◌, ◌≤◌, ◌↔◌, IsTrue, OnOk};
+
+use gutsirava_report::{FilePlace, Message, Note, Severity};
+use std::alloc::{AllocError, Global};
+
+/// So many errors are told.
+const MOST_ERRORS: usize = 10;
+
+/// What is told of a bundle, in the order in which it was found.
+#[derive(Drop)]
+pub struct Messages {
+    pub list: Vec<Message>,
+    /// How many of them are errors.
+    pub errors: usize,
+}
+
+impl Messages {
+    pub(crate) fn new(alloc: Global) -> Messages
+        ensures { result.errors ≡ 0 }
+    {
+        Messages {
+            list: Vec::new(alloc),
+            errors: 0,
+        }
+    }
+
+    /// Whether as many errors are told as may be.
+    pub(crate) fn is_full(&self) -> bool
+        ensures { IsTrue result ↔ (MOST_ERRORS ≤ self.now.errors) }
+    {
+        self.errors >= MOST_ERRORS
+    }
+
+    /// Adds an error. Of more than ten the first ones are kept.
+    pub(crate) fn error(
+        &mut self,
+        text: String,
+        place: Option<FilePlace>,
+        notes: Vec<Note>,
+    ) -> Result<(), AllocError>
+        ensures grows { self.old.errors ≤ self.new.errors }
+        ensures told { OnOk result (0 < self.new.errors) }
+    {
+        if self.is_full() {
+            return Ok(());
+        }
+        self.errors = self.errors.saturating_add(1);
+        self.list.push(Message {
+            severity: Severity::Error,
+            text,
+            place,
+            notes,
+        })?;
+        Ok(())
+    }
+
+    pub(crate) fn warning(
+        &mut self,
+        alloc: Global,
+        text: String,
+        place: Option<FilePlace>,
+    ) -> Result<(), AllocError>
+        ensures { self.new.errors ≡ self.old.errors }
+    {
+        self.list.push(Message {
+            severity: Severity::Warning,
+            text,
+            place,
+            notes: Vec::new(alloc),
+        })?;
+        Ok(())
+    }
+}

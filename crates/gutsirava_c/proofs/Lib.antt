@@ -1,0 +1,4 @@
+mod Asked
+mod Listed
+mod Reading
+mod Told

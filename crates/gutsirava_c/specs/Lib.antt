@@ -1,0 +1,4 @@
+pub mod Answer
+pub mod Refusal
+pub mod Request
+pub mod Sources

@@ -1,0 +1,13 @@
+//! package.json: what a package says of itself, and which of its files its `exports` and `imports` name.
+#![tactic(auto)]
+
+mod lookup;
+mod package;
+mod patterns;
+mod read;
+mod segments;
+mod target;
+
+pub use lookup::{Located, TargetError};
+pub use package::{Browser, Package, PackageError, PackageType};
+pub use target::PackageTarget;

@@ -1,0 +1,2 @@
+pub mod NormalParts
+pub mod Ways

@@ -1,0 +1,45 @@
+//! Where a path lies, and the name of its file.
+ghost use Rattle.std.specs.Prelude.{◌<◌, length, IfSome};
+
+/// The folder of a normal path: what stands before its last `/`. `/` of what lies in it, the empty text of a path of
+/// one part.
+pub fn folder_of(path: &str) -> &str {
+    match path.rsplit_once('/') {
+        None => "",
+        Some(("", _)) => "/",
+        Some((folder, _)) => folder,
+    }
+}
+
+/// The folder that holds a folder; nothing holds `/`, and nothing that is known a path of one part.
+pub fn parent(folder: &str) -> Option<&str>
+    ensures { IfSome result (λ above. length above.now < length folder.now) }
+{
+    let (above, name) = folder.rsplit_once('/')?;
+    if !above.is_empty() {
+        Some(above)
+    } else if !name.is_empty() {
+        Some("/")
+    } else {
+        None
+    }
+}
+
+/// What stands behind the last `/`.
+pub fn file_name(path: &str) -> &str {
+    path.rsplit_once('/').map_or(path, |(_, name)| name)
+}
+
+/// The ending of a file's name from its last `.` on, with it; empty where the name has none, or none but in front.
+pub fn extension(path: &str) -> &str {
+    let name = file_name(path);
+    match name.rfind('.') {
+        Some(at) if at > 0 && name != ".." => name.get(at..).unwrap_or(""),
+        _ => "",
+    }
+}
+
+/// Whether a path means a folder by its form: it ends with `/`, or its last part is `.` or `..`.
+pub fn is_folder_form(path: &str) -> bool {
+    matches!(file_name(path), "" | "." | "..")
+}

@@ -1,0 +1,4 @@
+pub mod ExcerptLemmas
+pub mod LineLemmas
+pub mod QuietLemmas
+pub mod SheetLemmas

@@ -1,0 +1,41 @@
+//! What kind of module a file is.
+
+use crate::error::ResolutionError;
+use crate::files::FileSystem;
+use crate::tree::Tree;
+use gutsirava_package::PackageType;
+use gutsirava_path::{extension, folder_of};
+
+/// What kind of module a file is, by its name and the package that it lies in.
+#[derive(Clone, Copy, Debug, PartialEq, Eq)]
+pub enum FileFormat {
+    EcmaScript,
+    CommonJs,
+    Json,
+    /// A native library (`.node`), which no bundle takes in.
+    Addon,
+    /// Neither its name nor its package tells: its text does.
+    Undeclared,
+}
+
+impl<F: FileSystem + Drop> Tree<F> {
+    /// What kind of module the file at a path is.
+    pub(crate) fn format(&mut self, path: &str) -> Result<FileFormat, ResolutionError> {
+        match extension(path) {
+            ".mjs" => return Ok(FileFormat::EcmaScript),
+            ".cjs" => return Ok(FileFormat::CommonJs),
+            ".json" => return Ok(FileFormat::Json),
+            ".node" => return Ok(FileFormat::Addon),
+            _ => {}
+        }
+        let Some(folder) = self.scope(folder_of(path))? else {
+            return Ok(FileFormat::Undeclared);
+        };
+        let module_type = self.package(folder)?.map(|package| package.module_type);
+        Ok(match module_type {
+            Some(PackageType::EcmaScript) => FileFormat::EcmaScript,
+            Some(PackageType::CommonJs) => FileFormat::CommonJs,
+            Some(PackageType::Undeclared) | None => FileFormat::Undeclared,
+        })
+    }
+}

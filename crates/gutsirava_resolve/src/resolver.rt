@@ -1,0 +1,287 @@
+//! The resolver: which file a specifier names.
+ghost use Rattle.std.specs.Prelude.{IfOk, IfSome, string_bytes};
+ghost use Rattle.gutsirava_resolve.specs.Found.{IsFileOf};
+
+use crate::browser::Replacement;
+use crate::error::ResolutionError;
+use crate::files::FileSystem;
+use crate::format::FileFormat;
+use crate::packages::{Found, Internal, Wanted, address_place};
+use crate::search::NamedPlace;
+use crate::settings::Settings;
+use crate::tree::Tree;
+use gutsirava_path::{Loader, Specifier, folder_of};
+use std::alloc::{AllocError, Global};
+
+/// A specifier may be this long, in bytes: more than any file's path.
+const MOST_SPECIFIER: usize = 65_535;
+
+/// What is asked for.
+#[derive(Clone, Copy)]
+pub struct ResolveRequest<'a> {
+    pub specifier: &'a str,
+    /// The file that asks: a normal path that begins with `/`.
+    pub importer: &'a str,
+    pub loader: Loader,
+}
+
+/// What a specifier names.
+#[derive(Drop)]
+pub enum Resolved {
+    /// A file, by its path without links, and what stands behind it in the specifier, from `?` or `#` on.
+    File { path: String, suffix: String },
+    /// One of Node's own modules, by its name without `node:`.
+    Builtin(String),
+    /// What is left as it is, by its specifier: it was asked for, or it is an address elsewhere.
+    External(String),
+    /// A file that is left as it is, by its path.
+    ExternalFile(String),
+    /// An empty module, which the map `browser` puts in the place of what was asked for.
+    Empty(String),
+}
+
+/// Resolves specifiers over a file system, of which it asks nothing twice.
+#[derive(Drop)]
+pub struct Resolver<F: FileSystem> {
+    alloc: Global,
+    settings: Settings,
+    tree: Tree<F>,
+}
+
+impl<F: FileSystem + Drop> Resolver<F> {
+    /// A resolver that has asked for nothing yet.
+    pub fn new(alloc: Global, files: F, settings: Settings) -> Resolver<F> {
+        Resolver {
+            alloc,
+            settings,
+            tree: Tree::new(alloc, files),
+        }
+    }
+
+    /// What kind of module the file at a path is.
+    pub fn format(&mut self, path: &str) -> Result<FileFormat, ResolutionError> {
+        self.tree.format(path)
+    }
+
+    /// What a specifier names for the file that asks.
+    pub fn resolve(&mut self, request: ResolveRequest<'_>) -> Result<Resolved, ResolutionError>
+        ensures { IfOk result (IsFileOf F.has_file) }
+    {
+        let alloc = self.alloc;
+        let specifier = request.specifier;
+        if specifier.len() > MOST_SPECIFIER {
+            return Err(ResolutionError::TooLong);
+        }
+        if self.settings.externals.has_name(specifier) {
+            return Ok(Resolved::External(String::from_str(alloc, specifier)?));
+        }
+        self.tree.begin();
+        let named = String::from_str(alloc, specifier)?;
+        match Specifier::of(specifier, request.loader) {
+            _ if specifier.contains('\0') => Err(ResolutionError::Invalid { specifier: named }),
+            Specifier::Empty => Err(ResolutionError::Invalid { specifier: named }),
+            Specifier::Remote(_) => Err(ResolutionError::Host { specifier: named }),
+            Specifier::UnknownBuiltin(_) => Err(ResolutionError::UnknownBuiltin {
+                specifier: named,
+            }),
+            Specifier::Url(_) => Ok(Resolved::External(named)),
+            Specifier::Builtin(_) | Specifier::Bare(_) => self.resolve_name(request),
+            Specifier::Internal(_) => self.resolve_internal(request),
+            Specifier::Relative(text) | Specifier::Absolute(text) => {
+                self.resolve_path(request, text, request.loader)
+            }
+            Specifier::File(text) => self.resolve_path(request, text, Loader::EcmaScript),
+        }
+    }
+
+    /// What a path names; `reading` is the loader in whose way the text is read.
+    fn resolve_path(
+        &mut self,
+        request: ResolveRequest<'_>,
+        text: &str,
+        reading: Loader,
+    ) -> Result<Resolved, ResolutionError>
+        ensures { IfOk result (IsFileOf F.has_file) }
+    {
+        let folder = folder_of(request.importer);
+        let place = match reading {
+            Loader::EcmaScript => address_place(self.alloc, folder, text, request.specifier)?,
+            Loader::CommonJs => NamedPlace::of_path(self.alloc, folder, text)?,
+        };
+        if self.settings.externals.has_path(place.path.as_str()) {
+            return Ok(Resolved::ExternalFile(place.path));
+        }
+        let wanted = Wanted {
+            specifier: request.specifier,
+            folder,
+            loader: request.loader,
+            settings: &self.settings,
+        };
+        match self.tree.file_at(place, &wanted)? {
+            Some(found) => self.finish(found),
+            None => Err(self.tree.not_found(request.specifier)),
+        }
+    }
+
+    /// What an entry of `imports` names.
+    fn resolve_internal(&mut self, request: ResolveRequest<'_>) -> Result<Resolved, ResolutionError>
+        ensures { IfOk result (IsFileOf F.has_file) }
+    {
+        let wanted = Wanted {
+            specifier: request.specifier,
+            folder: folder_of(request.importer),
+            loader: request.loader,
+            settings: &self.settings,
+        };
+        match self.tree.internal_target(&wanted)? {
+            Internal::Inside(found) => self.finish(found),
+            Internal::Package { folder, specifier } => {
+                self.resolve_package(specifier.as_str(), folder.as_str(), request.loader)
+            }
+            Internal::Undefined if request.loader == Loader::EcmaScript => {
+                Err(ResolutionError::NoImports {
+                    specifier: String::from_str(self.alloc, request.specifier)?,
+                })
+            }
+            Internal::Undefined => {
+                let folder = folder_of(request.importer);
+                self.resolve_package(request.specifier, folder, request.loader)
+            }
+        }
+    }
+
+    /// What the name of a package, or of one of Node's modules, stands for; the map `browser` comes first.
+    fn resolve_name(&mut self, request: ResolveRequest<'_>) -> Result<Resolved, ResolutionError>
+        ensures { IfOk result (IsFileOf F.has_file) }
+    {
+        let folder = folder_of(request.importer);
+        if self.settings.uses_browser_map {
+            match self.tree.replaced_name(folder, request.specifier)? {
+                None => {}
+                Some(Replacement::Empty) => {
+                    let name = String::from_str(self.alloc, request.specifier)?;
+                    return Ok(Resolved::Empty(name));
+                }
+                Some(Replacement::Text { folder, text }) => {
+                    return self.resolve_replacement(&folder, &text, request.loader);
+                }
+            }
+        }
+        self.resolve_package(request.specifier, folder, request.loader)
+    }
+
+    /// What a text of the map `browser` names in the folder of its package.
+    fn resolve_replacement(
+        &mut self,
+        folder: &str,
+        text: &str,
+        loader: Loader,
+    ) -> Result<Resolved, ResolutionError>
+        ensures { IfOk result (IsFileOf F.has_file) }
+    {
+        if !text.starts_with('.') {
+            return self.resolve_package(text, folder, loader);
+        }
+        let place = NamedPlace::of_path(self.alloc, folder, text)?;
+        match self.tree.complete(&place, &self.settings, loader)? {
+            Some(path) => Ok(Resolved::File {
+                path,
+                suffix: String::new(self.alloc),
+            }),
+            None => Err(self.tree.not_found(text)),
+        }
+    }
+
+    /// One of Node's modules, or the file of a package.
+    fn resolve_package(
+        &mut self,
+        specifier: &str,
+        folder: &str,
+        loader: Loader,
+    ) -> Result<Resolved, ResolutionError>
+        ensures { IfOk result (IsFileOf F.has_file) }
+    {
+        let builtin = match Specifier::of(specifier, loader) {
+            Specifier::Builtin(name) => Some(String::from_str(self.alloc, name)?),
+            _ => None,
+        };
+        let is_name = self.settings.prefers_packages && !specifier.starts_with("node:");
+        if let Some(name) = builtin {
+            let found = if is_name {
+                self.find_package(specifier, folder, loader)?
+            } else {
+                None
+            };
+            return match found {
+                Some(found) => self.finish(found),
+                None => Ok(Resolved::Builtin(name)),
+            };
+        }
+        match self.find_package(specifier, folder, loader)? {
+            Some(found) => self.finish(found),
+            None => Err(self.tree.not_found(specifier)),
+        }
+    }
+
+    /// The file of a package.
+    fn find_package<'a>(
+        &mut self,
+        specifier: &'a str,
+        folder: &'a str,
+        loader: Loader,
+    ) -> Result<Option<Found>, ResolutionError>
+        ensures { IfOk result (λ found. IfSome found
+            (λ file. F.has_file (string_bytes file.path))) }
+    {
+        let wanted = Wanted {
+            specifier,
+            folder,
+            loader,
+            settings: &self.settings,
+        };
+        self.tree.package_file(&wanted)
+    }
+
+    /// A file, or what takes its place.
+    fn finish(&mut self, found: Found) -> Result<Resolved, ResolutionError>
+        requires { F.has_file (string_bytes found.path) }
+        ensures { IfOk result (IsFileOf F.has_file) }
+    {
+        let Found { path, suffix } = found;
+        if self.settings.externals.has_path(path.as_str()) {
+            return Ok(Resolved::ExternalFile(path));
+        }
+        if !self.settings.uses_browser_map {
+            return Ok(Resolved::File { path, suffix });
+        }
+        match self.tree.replaced_file(path.as_str(), &self.settings)? {
+            None => Ok(Resolved::File { path, suffix }),
+            Some(Replacement::Empty) => Ok(Resolved::Empty(path)),
+            Some(Replacement::Text { folder, text }) => {
+                self.replace_file(&folder, &text, path.as_str())
+            }
+        }
+    }
+
+    /// The file that a text of the map `browser` names in the place of another.
+    fn replace_file(
+        &mut self,
+        folder: &str,
+        text: &str,
+        replaced: &str,
+    ) -> Result<Resolved, ResolutionError>
+        ensures { IfOk result (IsFileOf F.has_file) }
+    {
+        let place = NamedPlace::of_path(self.alloc, folder, text)?;
+        match self
+            .tree
+            .complete(&place, &self.settings, Loader::EcmaScript)?
+        {
+            Some(path) => Ok(Resolved::File {
+                path,
+                suffix: String::new(self.alloc),
+            }),
+            None => Err(self.tree.not_found(replaced)),
+        }
+    }
+}

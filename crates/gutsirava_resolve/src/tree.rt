@@ -1,0 +1,133 @@
+//! The file system with its packages.
+ghost use Rattle.std.specs.Prelude.{IfOk, IfSome, string_bytes};
+
+use crate::error::ResolutionError;
+use crate::files::FileSystem;
+use crate::known::{Known, files_error};
+use gutsirava_package::{Package, PackageError};
+use gutsirava_path::{file_name, join, parent};
+use std::alloc::{AllocError, Global};
+use std::collections::BTreeMap;
+
+/// So many paths are told where none of them is a file.
+const MOST_TRIED: usize = 32;
+
+/// The file system with its packages.
+#[derive(Drop)]
+pub(crate) struct Tree<F: FileSystem> {
+    pub(crate) alloc: Global,
+    known: Known<F>,
+    /// Folders, and the place in `packages` of what their package.json says; `None` where they have none.
+    places: BTreeMap<String, Option<usize>>,
+    packages: Vec<Package>,
+    /// What was no file since the last request began.
+    tried: Vec<String>,
+}
+
+impl<F: FileSystem + Drop> Tree<F> {
+    pub(crate) fn new(alloc: Global, files: F) -> Tree<F> {
+        Tree {
+            alloc,
+            known: Known::new(alloc, files),
+            places: BTreeMap::new(alloc),
+            packages: Vec::new(alloc),
+            tried: Vec::new(alloc),
+        }
+    }
+
+    /// Forgets what was tried.
+    pub(crate) fn begin(&mut self) {
+        self.tried.clear();
+    }
+
+    /// No file is found: what was tried is told.
+    pub(crate) fn not_found(&mut self, specifier: &str) -> ResolutionError {
+        let tried = std::mem::replace(&mut self.tried, Vec::new(self.alloc));
+        match String::from_str(self.alloc, specifier) {
+            Ok(specifier) => ResolutionError::NotFound { specifier, tried },
+            Err(error) => ResolutionError::Memory(error),
+        }
+    }
+
+    pub(crate) fn is_folder(&mut self, path: &str) -> Result<bool, ResolutionError> {
+        self.known.is_folder(self.alloc, path)
+    }
+
+    /// The file at the path, by its path without links; where none is, the path was tried.
+    pub(crate) fn file(&mut self, path: &str) -> Result<Option<String>, ResolutionError>
+        ensures { IfOk result (λ found. IfSome found (λ real. F.has_file (string_bytes real))) }
+    {
+        let found = self.known.file(self.alloc, path)?;
+        if found.is_none() && self.tried.len() < MOST_TRIED {
+            self.tried.push(String::from_str(self.alloc, path)?)?;
+        }
+        Ok(found)
+    }
+
+    /// What the package.json of a folder says, if it has one.
+    pub(crate) fn package(&mut self, folder: &str) -> Result<Option<&Package>, ResolutionError> {
+        let place = match self.places.get(folder).copied() {
+            Some(place) => place,
+            None => self.read_package(folder)?,
+        };
+        match place {
+            Some(at) => Ok(self.packages.get(at)),
+            None => Ok(None),
+        }
+    }
+
+    /// Reads the package.json of a folder, and keeps what it says.
+    fn read_package(&mut self, folder: &str) -> Result<Option<usize>, ResolutionError> {
+        let path = join(self.alloc, folder, "package.json")?;
+        let place = if self.known.file(self.alloc, path.as_str())?.is_some() {
+            let package = self.parse_package(path.as_str())?;
+            let at = self.packages.len();
+            self.packages.push(package)?;
+            Some(at)
+        } else {
+            None
+        };
+        self.places
+            .insert(String::from_str(self.alloc, folder)?, place)?;
+        Ok(place)
+    }
+
+    fn parse_package(&mut self, path: &str) -> Result<Package, ResolutionError> {
+        let text = match self.known.read(self.alloc, path) {
+            Ok(text) => text,
+            Err(cause) => return Err(files_error(self.alloc, path, cause)),
+        };
+        match Package::parse(self.alloc, text.as_str()) {
+            Ok(package) => Ok(package),
+            Err(PackageError::Memory(error)) => Err(ResolutionError::Memory(error)),
+            Err(cause) => Err(ResolutionError::Package {
+                path: String::from_str(self.alloc, path)?,
+                cause,
+            }),
+        }
+    }
+
+    /// The folder of the package that a folder belongs to: the next one upwards with a package.json, below any
+    /// `node_modules`.
+    pub(crate) fn scope<'p>(
+        &mut self,
+        folder: &'p str,
+    ) -> Result<Option<&'p str>, ResolutionError> {
+        let mut here = folder;
+        while file_name(here) != "node_modules" {
+            if self.package(here)?.is_some() {
+                return Ok(Some(here));
+            }
+            let Some(above) = parent(here) else {
+                break;
+            };
+            here = above;
+        }
+        Ok(None)
+    }
+}
+
+/// The text of a path with more behind it.
+pub(crate) fn with_ending(alloc: Global, path: &str, ending: &str) -> Result<String, AllocError> {
+    format!(in alloc; "{path}{ending}")
+}

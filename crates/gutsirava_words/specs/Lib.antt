@@ -1,0 +1,4 @@
+pub mod Choice
+pub mod Draft
+pub mod Key
+pub mod Output

@@ -1,0 +1,2 @@
+import { menu } from '../shared/menu.js';
+console.log(`about ${menu(['home', 'us'])}`);

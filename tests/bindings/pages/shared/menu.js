@@ -1,0 +1,1 @@
+export const menu = (names) => names.map((name) => `[${name}]`).join(' ');

@@ -1,0 +1,2 @@
+import { sum } from './sum.js';
+export default (count, number) => sum(...Array(count).fill(number));
