@@ -69,8 +69,7 @@ function askProgram(settings, requests) {
     const [word, ...rest] = line.split('\x1f');
     if (word === 'file') return ['file', rest[0], rest[1]];
     if (word !== 'error') return [word, rest[0]];
-    const kind = /^(?:Target|Address)\b.*?cause: (\w+)/.exec(rest[0])?.[1] ?? /^\w+/.exec(rest[0])[0];
-    return ['error', codes[kind] ?? kind];
+    return ['error', codes[rest[0]] ?? rest[0]];
   });
 }
 

@@ -4,7 +4,7 @@
 use anyhow::Result;
 use gutsirava_files::MachineFiles;
 use gutsirava_run::{Host, Surroundings, run};
-use gutsirava_words::Command;
+use gutsirava_words::{Command, WordsError};
 use std::io::IsTerminal;
 use std::process::ExitCode;
 use std::{env, io};
@@ -21,12 +21,22 @@ fn main(rt: HostRuntime) -> ExitCode {
 
 /// The status with which the command ends, once it has done what its words ask for.
 fn status(rt: &HostRuntime) -> Result<u8> {
-    let alloc = rt.alloc();
-    let mut words = Vec::new(alloc);
+    let words = words_of(rt)?;
+    let asked = Command::from_words(rt.alloc(), words.as_slice());
+    run_on(rt, &asked)
+}
+
+/// The words of the command, those behind its own name.
+fn words_of(rt: &HostRuntime) -> Result<Vec<String>> {
+    let mut words = Vec::new(rt.alloc());
     for word in env::args(rt)?.skip(1) {
         words.push(word)?;
     }
-    let asked = Command::from_words(alloc, words.as_slice());
+    Ok(words)
+}
+
+/// Does what is asked for, on the machine.
+fn run_on(rt: &HostRuntime, asked: &Result<Command, WordsError>) -> Result<u8> {
     let surroundings = Surroundings {
         folder: env::current_dir(rt).map(|folder| folder.into_string()),
         no_color: env::var(rt, "NO_COLOR").ok(),
@@ -40,5 +50,5 @@ fn status(rt: &HostRuntime) -> Result<u8> {
         errors: rt.stderr(),
         clock: rt,
     };
-    Ok(run(alloc, &asked, surroundings, &mut host)?)
+    Ok(run(rt.alloc(), asked, surroundings, &mut host)?)
 }

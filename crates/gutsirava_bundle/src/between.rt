@@ -5,6 +5,7 @@ ghost use Rattle.std.specs.Prelude.{◌≤◌};
 use crate::facade::{Facade, name_of, put_import};
 use crate::graph::Graph;
 use crate::tables::{GivenNames, are_plain, asked_modules, names_of};
+use crate::unit::path_in;
 use gutsirava_resolve::FileSystem;
 use gutsirava_sources::SourceKind;
 use std::alloc::AllocError;
@@ -19,7 +20,7 @@ impl<'s, F: FileSystem + Drop> Graph<'s, F> {
         ensures { self.old.messages.errors ≤ self.new.messages.errors }
     {
         let alloc = self.alloc;
-        let name = match self.units.get(target).and_then(|unit| unit.path()) {
+        let name = match path_in(self.units.as_slice(), target) {
             Some(path) => name_of(alloc, path)?,
             None => String::from_str(alloc, "external")?,
         };

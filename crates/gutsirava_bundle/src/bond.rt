@@ -5,7 +5,6 @@ use gutsirava_sources::{PartKeys, Stand};
 use std::alloc::{AllocError, Global};
 
 /// What stands for a request, with texts of its own.
-#[derive(Drop)]
 pub(crate) enum Bond {
     Left(String),
     Module(String),
@@ -20,6 +19,25 @@ pub(crate) enum Bond {
     Loader(String),
 }
 
+/// Lets go of it. Written by hand, so that who lets one go calls this function.
+impl Drop for Bond {
+    fn drop(self) {
+        match self {
+            Bond::Left(_text) => {}
+            Bond::Module(_key) => {}
+            Bond::Parts {
+                names: _names,
+                star: _star,
+                run: _run,
+                default: _default,
+                namespace: _namespace,
+            } => {}
+            Bond::Load(_key, _name) => {}
+            Bond::Loader(_key) => {}
+        }
+    }
+}
+
 /// The modules that stand for the parts of a request; the module itself, where a part is not asked for.
 #[derive(Clone, Copy)]
 pub(crate) struct Seats {
@@ -31,6 +49,11 @@ pub(crate) struct Seats {
 }
 
 impl Bond {
+    /// The text, which is left.
+    pub(crate) fn to_left(alloc: Global, text: &str) -> Result<Bond, AllocError> {
+        Ok(Bond::Left(String::from_str(alloc, text)?))
+    }
+
     pub(crate) fn to_module(alloc: Global, unit: usize) -> Result<Bond, AllocError> {
         Ok(Bond::Module(key_of(alloc, unit)?))
     }

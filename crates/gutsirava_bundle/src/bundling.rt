@@ -168,7 +168,7 @@ fn finish<F: FileSystem + Drop>(
     ensures same { IfOk result (λ it. it.messages.errors ≡ 0 → it.outputs ≡ outputs) }
 {
     let inputs = paths_of(alloc, graph.units.as_slice())?;
-    let Graph { messages, .. } = graph;
+    let messages = graph.into_messages();
     let outputs = unless_faults(alloc, messages.errors, outputs);
     Ok(Bundled {
         outputs,
@@ -196,6 +196,13 @@ fn unless_faults(alloc: Global, errors: usize, outputs: Vec<BundleText>) -> Vec<
     if errors > 0 { Vec::new(alloc) } else { outputs }
 }
 
+// What was found of an entry.
+#[derive(Drop)]
+struct FoundEntry {
+    file: usize,
+    hashbang: Option<String>,
+}
+
 // Finds the file of an entry. A CommonJS module has one in front that exports what it exports.
 fn find<F: FileSystem + Drop>(
     graph: &mut Graph<'_, F>,
@@ -205,45 +212,81 @@ fn find<F: FileSystem + Drop>(
     ensures told { IfOk result (λ found.
         MatchOption found (0 < graph.new.messages.errors) (IsRootOf entry)) }
 {
-    let alloc = graph.alloc;
     let BundleEntry { name, path, text } = entry;
-    let Some(text) = entry_text(graph, path.as_str(), text)? else {
-        return Ok(None);
-    };
-    let hashbang = match hashbang_of(text.as_str()) {
-        Some(line) => Some(String::from_str(alloc, line)?),
-        None => None,
-    };
-    let file = match entry_file(graph, path, text)? {
-        FoundUnit::Unit(file) => file,
-        FoundUnit::Unread(why) => {
-            graph.messages.error(why, None, Vec::new(alloc))?;
-            return Ok(None);
-        }
-    };
+    match found(graph, path.as_str(), text)? {
+        Some(it) => Ok(Some(root_of(graph, name, it)?)),
+        None => Ok(None),
+    }
+}
+
+fn root_of<F: FileSystem + Drop>(
+    graph: &mut Graph<'_, F>,
+    name: String,
+    found: FoundEntry,
+) -> Result<Root, AllocError>
+    ensures grows { graph.old.messages.errors ≤ graph.new.messages.errors }
+    ensures named { IfOk result (λ root. root.name ≡ name) }
+{
+    let FoundEntry { file, hashbang } = found;
     let unit = match graph.kind_of(file) {
         SourceKind::EcmaScript => file,
         SourceKind::CommonJs => graph.facade(file, Facade::NodeDefault)?,
     };
-    Ok(Some(Root {
+    Ok(Root {
         name,
         unit,
         file,
         hashbang,
-    }))
+    })
+}
+
+// Finds the file at the path of an entry, whose text may be given.
+fn found<F: FileSystem + Drop>(
+    graph: &mut Graph<'_, F>,
+    path: &str,
+    given: Option<String>,
+) -> Result<Option<FoundEntry>, AllocError>
+    ensures grows { graph.old.messages.errors ≤ graph.new.messages.errors }
+    ensures told { IfOk result (λ found.
+        MatchOption found (0 < graph.new.messages.errors) (λ _. Unit {0})) }
+{
+    let Some(text) = entry_text(graph, path, given)? else {
+        return Ok(None);
+    };
+    let hashbang = first_line(graph.alloc, text.as_str())?;
+    match entry_file(graph, path, text)? {
+        Some(file) => Ok(Some(FoundEntry { file, hashbang })),
+        None => Ok(None),
+    }
+}
+
+// The first line of a text, where it names a program.
+fn first_line(alloc: Global, text: &str) -> Result<Option<String>, AllocError> {
+    match hashbang_of(text) {
+        Some(line) => Ok(Some(String::from_str(alloc, line)?)),
+        None => Ok(None),
+    }
 }
 
 // The module of the file of an entry.
 fn entry_file<F: FileSystem + Drop>(
     graph: &mut Graph<'_, F>,
-    path: String,
+    path: &str,
     text: String,
-) -> Result<FoundUnit, AllocError>
-    ensures { graph.old.messages.errors ≤ graph.new.messages.errors }
+) -> Result<Option<usize>, AllocError>
+    ensures grows { graph.old.messages.errors ≤ graph.new.messages.errors }
+    ensures told { IfOk result (λ found.
+        MatchOption found (0 < graph.new.messages.errors) (λ _. Unit {0})) }
 {
-    match graph.known(path.as_str()) {
-        Some(unit) => Ok(FoundUnit::Unit(unit)),
-        None => graph.add_file(path.as_str(), path.clone()?, text),
+    if let Some(unit) = graph.known(path) {
+        return Ok(Some(unit));
+    }
+    match graph.add_file(path, path, text)? {
+        FoundUnit::Unit(file) => Ok(Some(file)),
+        FoundUnit::Unread(why) => {
+            graph.messages.error(why, None, Vec::new(graph.alloc))?;
+            Ok(None)
+        }
     }
 }
 
@@ -257,16 +300,26 @@ fn entry_text<F: FileSystem + Drop>(
     ensures told { IfOk result (λ text.
         MatchOption text (0 < graph.new.messages.errors) (λ _. Unit {0})) }
 {
-    if given.is_some() {
-        return Ok(given);
+    match given {
+        Some(text) => Ok(Some(text)),
+        None => read_text(graph, path),
     }
-    let alloc = graph.alloc;
-    match graph.files.read(alloc, path) {
+}
+
+// The text of the file of an entry.
+fn read_text<F: FileSystem + Drop>(
+    graph: &mut Graph<'_, F>,
+    path: &str,
+) -> Result<Option<String>, AllocError>
+    ensures grows { graph.old.messages.errors ≤ graph.new.messages.errors }
+    ensures told { IfOk result (λ text.
+        MatchOption text (0 < graph.new.messages.errors) (λ _. Unit {0})) }
+{
+    match graph.files.read(graph.alloc, path) {
         Ok(text) => Ok(Some(text)),
         Err(cause) => {
-            let shown = graph.shown(path)?;
-            let why = format!(in alloc; "{shown} cannot be read: {cause}")?;
-            graph.messages.error(why, None, Vec::new(alloc))?;
+            let why = graph.unread_text(path, &cause)?;
+            graph.messages.error(why, None, Vec::new(graph.alloc))?;
             Ok(None)
         }
     }
@@ -288,12 +341,20 @@ fn link<F: FileSystem + Drop>(
     let bundles = match linked {
         Ok(bundles) => bundles,
         Err(error) => {
-            graph.tell_refusal(&error)?;
+            refuse(graph, error)?;
             return Ok(Vec::new(alloc));
         }
     };
     let outputs = texts_of(alloc, settings, roots, bundles.as_slice())?;
     Ok(outputs)
+}
+
+// Tells why the linker gives no bundle.
+fn refuse<F: FileSystem + Drop>(graph: &mut Graph<'_, F>, error: Error) -> Result<(), AllocError>
+    ensures grows { graph.old.messages.errors ≤ graph.new.messages.errors }
+    ensures told { OnOk result (0 < graph.new.messages.errors) }
+{
+    graph.tell_refusal(&error)
 }
 
 // The entries of bundles that begin with these modules, called by their numbers. Names of bundles do not show in them.

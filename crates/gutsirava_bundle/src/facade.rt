@@ -219,21 +219,57 @@ fn is_given(names: Option<&GivenNames>, name: &str) -> bool {
 // The names of the target but `default`, for `export *`. Each has a variable, so that a name may be any text.
 fn star_text(alloc: Global, name: &str, names: Option<&GivenNames>) -> Result<String, AllocError> {
     let mut text = format!(in alloc; "import * as {name}_exports from \"target\";\n")?;
-    let mut list = String::new(alloc);
     if let Some(names) = names {
-        for (number, given) in names.names.iter().enumerate() {
-            if given.as_str() != "default" {
-                let line = format!(in alloc;
-                    "const {name}_{number} = {name}_exports[{given:?}];\n"
-                )?;
-                text.push_str(line.as_str())?;
-                let key = written(alloc, given.as_str())?;
-                list.push_str(format!(in alloc; "{name}_{number} as {key},")?.as_str())?;
-            }
+        push_variables(alloc, &mut text, name, names)?;
+    }
+    text.push_str("export { ")?;
+    if let Some(names) = names {
+        push_specifiers(alloc, &mut text, name, names)?;
+    }
+    text.push_str(" };")?;
+    Ok(text)
+}
+
+// Puts down a variable for each name but `default`.
+fn push_variables(
+    alloc: Global,
+    text: &mut String,
+    name: &str,
+    names: &GivenNames,
+) -> Result<(), AllocError> {
+    for (number, given) in names.names.iter().enumerate() {
+        if given.as_str() != "default" {
+            let line = format!(in alloc; "const {name}_{number} = {name}_exports[{given:?}];\n")?;
+            text.push_str(line.as_str())?;
         }
     }
-    text.push_str(format!(in alloc; "export {{ {list} }};")?.as_str())?;
-    Ok(text)
+    Ok(())
+}
+
+// Puts down that each of these variables is exported under its name.
+fn push_specifiers(
+    alloc: Global,
+    text: &mut String,
+    name: &str,
+    names: &GivenNames,
+) -> Result<(), AllocError> {
+    for (number, given) in names.names.iter().enumerate() {
+        if given.as_str() != "default" {
+            push_specifier(alloc, text, name, number, given.as_str())?;
+        }
+    }
+    Ok(())
+}
+
+fn push_specifier(
+    alloc: Global,
+    text: &mut String,
+    name: &str,
+    number: usize,
+    given: &str,
+) -> Result<(), AllocError> {
+    let key = written(alloc, given)?;
+    push_line(text, format!(in alloc; "{name}_{number} as {key},"))
 }
 
 /// The statement that puts an ECMAScript module into the registry.
@@ -248,33 +284,107 @@ fn live_namespace(
     name: &str,
     names: Option<&GivenNames>,
 ) -> Result<String, AllocError> {
-    let Some(names) = names else {
-        return format!(in alloc;
+    match names {
+        Some(names) => getters_text(alloc, name, names),
+        None => format!(in alloc;
             "import * as {name}_namespace from \"target\"; export {{ {name}_namespace as namespace }};"
-        );
-    };
-    let mut imports = String::from_str(alloc, "import {")?;
-    let mut getters = String::new(alloc);
-    for (number, given) in names.names.iter().enumerate() {
-        let key = written(alloc, given.as_str())?;
-        imports.push_str(format!(in alloc; "{key} as v{number},")?.as_str())?;
-        getters.push_str(format!(in alloc; "get {key}() {{ return v{number}; }},")?.as_str())?;
+        ),
     }
-    imports.push_str("} from \"target\";\n")?;
-    let mut text = imports;
-    let mut more = String::new(alloc);
-    for (number, outer) in names.outer.iter().enumerate() {
-        text.push_str(format!(in alloc; "import * as o{number} from {outer:?};\n")?.as_str())?;
-        more.push_str(outer_names(alloc, name, number)?.as_str())?;
+}
+
+// The same where the names are known.
+fn getters_text(alloc: Global, name: &str, names: &GivenNames) -> Result<String, AllocError> {
+    let mut text = String::from_str(alloc, "import {")?;
+    push_imports(alloc, &mut text, names)?;
+    text.push_str("} from \"target\";\n")?;
+    push_outer_imports(alloc, &mut text, names)?;
+    push_object(alloc, &mut text, name, names)?;
+    Ok(text)
+}
+
+// Puts down an object with a getter for each name, and that it is exported.
+fn push_object(
+    alloc: Global,
+    text: &mut String,
+    name: &str,
+    names: &GivenNames,
+) -> Result<(), AllocError> {
+    push_line(
+        text,
+        format!(in alloc; "const {name}_namespace = {{ __proto__: null, "),
+    )?;
+    push_getters(alloc, text, names)?;
+    text.push_str(" };\n            ")?;
+    for number in 0..names.outer.len() {
+        push_line(text, outer_names(alloc, name, number))?;
     }
-    text.push_str(format!(in alloc;
-        "const {name}_namespace = {{ __proto__: null, {getters} }};
-            {more}Object.defineProperty({name}_namespace, Symbol.toStringTag, {{ value: \"Module\" }});
+    push_line(
+        text,
+        format!(in alloc;
+            "Object.defineProperty({name}_namespace, Symbol.toStringTag, {{ value: \"Module\" }});
             Object.preventExtensions({name}_namespace);
             export {{ {name}_namespace as namespace }};"
-    )?
-    .as_str())?;
-    Ok(text)
+        ),
+    )
+}
+
+// Puts down a text, where there is room for it.
+fn push_line(text: &mut String, line: Result<String, AllocError>) -> Result<(), AllocError> {
+    text.push_str(line?.as_str())
+}
+
+// Puts down an import of each name.
+fn push_imports(alloc: Global, text: &mut String, names: &GivenNames) -> Result<(), AllocError> {
+    for (number, given) in names.names.iter().enumerate() {
+        push_import(alloc, text, number, given.as_str())?;
+    }
+    Ok(())
+}
+
+fn push_import(
+    alloc: Global,
+    text: &mut String,
+    number: usize,
+    given: &str,
+) -> Result<(), AllocError> {
+    let key = written(alloc, given)?;
+    push_line(text, format!(in alloc; "{key} as v{number},"))
+}
+
+// Puts down a getter for each name.
+fn push_getters(alloc: Global, text: &mut String, names: &GivenNames) -> Result<(), AllocError> {
+    for (number, given) in names.names.iter().enumerate() {
+        push_getter(alloc, text, number, given.as_str())?;
+    }
+    Ok(())
+}
+
+fn push_getter(
+    alloc: Global,
+    text: &mut String,
+    number: usize,
+    given: &str,
+) -> Result<(), AllocError> {
+    let key = written(alloc, given)?;
+    push_line(
+        text,
+        format!(in alloc; "get {key}() {{ return v{number}; }},"),
+    )
+}
+
+// Puts down an import of each module that is left.
+fn push_outer_imports(
+    alloc: Global,
+    text: &mut String,
+    names: &GivenNames,
+) -> Result<(), AllocError> {
+    for (number, outer) in names.outer.iter().enumerate() {
+        push_line(
+            text,
+            format!(in alloc; "import * as o{number} from {outer:?};\n"),
+        )?;
+    }
+    Ok(())
 }
 
 // Adds the names of a module that is left to those of a namespace.

@@ -5,7 +5,7 @@ ghost use Rattle.std.specs.Prelude.{◌≤◌, ◌<◌, OnOk};
 use crate::graph::Graph;
 use crate::parties::unit_in;
 use crate::spot::{TextSpot, spot_in};
-use crate::unit::{BundleUnit, UnitOrigin, unit_of};
+use crate::unit::{BundleUnit, UnitOrigin, path_in, unit_of};
 use bundle_tree_names::error::Error;
 use bundle_tree_names::file_name::FileName;
 use gutsirava_report::FilePlace;
@@ -57,7 +57,7 @@ impl<'s, F: FileSystem + Drop> Graph<'s, F> {
 
     // The path of a module's file as it is told; empty where it has none.
     pub(crate) fn told_path(&self, unit: usize) -> Result<String, AllocError> {
-        match self.units.get(unit).and_then(|unit| unit.path()) {
+        match path_in(self.units.as_slice(), unit) {
             Some(path) => self.shown(path),
             None => Ok(String::new(self.alloc)),
         }
@@ -70,7 +70,10 @@ impl<'s, F: FileSystem + Drop> Graph<'s, F> {
         end: usize,
     ) -> Result<FilePlace, AllocError> {
         let path = self.told_path(unit)?;
-        let text = self.units.get(unit).map_or("", |unit| unit.text());
+        let text = match self.units.get(unit) {
+            Some(unit) => unit.text(),
+            None => "",
+        };
         FilePlace::in_text(self.alloc, path.as_str(), text, at, end)
     }
 
@@ -120,7 +123,10 @@ impl<'s, F: FileSystem + Drop> Graph<'s, F> {
         ensures grows { self.old.messages.errors ≤ self.new.messages.errors }
         ensures told { OnOk result (0 < self.new.messages.errors) }
     {
-        let target = unit_of(key).map(|unit| self.file_behind(unit));
+        let target = match unit_of(key) {
+            Some(unit) => Some(self.file_behind(unit)),
+            None => None,
+        };
         let Some(number) = unit_in(file) else {
             return self.tell_file(file, why);
         };

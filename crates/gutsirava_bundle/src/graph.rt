@@ -14,12 +14,12 @@ use gutsirava_sources::{
 };
 use std::alloc::{AllocError, Global};
 use std::collections::{BTreeMap, BTreeSet};
+use std::io;
 
 /// So many nodes may lie in each other: trees are gone over by recursion, which a stack of 8 MB has room for.
 pub(crate) const MOST_DEPTH: usize = 800;
 
 /// The modules that entries need.
-#[derive(Drop)]
 pub(crate) struct Graph<'s, F: FileSystem> {
     pub(crate) alloc: Global,
     pub(crate) files: F,
@@ -39,6 +39,26 @@ pub(crate) struct Graph<'s, F: FileSystem> {
     /// Whether a CommonJS module asks for an ECMAScript module.
     pub(crate) asks_modules: bool,
     pub(crate) messages: Messages,
+}
+
+/// Lets go of it. Written by hand, so that who lets one go calls this function.
+impl<'s, F: FileSystem + Drop> Drop for Graph<'s, F> {
+    fn drop(self) {
+        let Graph {
+            alloc: _alloc,
+            files: _files,
+            resolver: _resolver,
+            settings: _settings,
+            units: _units,
+            paths: _paths,
+            facades: _facades,
+            texts: _texts,
+            externals: _externals,
+            told: _told,
+            asks_modules: _asks_modules,
+            messages: _messages,
+        } = self;
+    }
 }
 
 /// What comes of a path.
@@ -84,6 +104,27 @@ impl<'s, F: FileSystem + Drop> Graph<'s, F> {
         }
     }
 
+    /// What is told, alone.
+    pub(crate) fn into_messages(self) -> Messages
+        ensures { result ≡ self.entry.messages }
+    {
+        let Graph {
+            alloc: _alloc,
+            files: _files,
+            resolver: _resolver,
+            settings: _settings,
+            units: _units,
+            paths: _paths,
+            facades: _facades,
+            texts: _texts,
+            externals: _externals,
+            told: _told,
+            asks_modules: _asks_modules,
+            messages,
+        } = self;
+        messages
+    }
+
     /// A path as it is told: from the folder where it lies in that, else whole.
     pub(crate) fn shown(&self, path: &str) -> Result<String, AllocError> {
         let near = relative(self.alloc, self.settings.folder.as_str(), path)?;
@@ -122,6 +163,21 @@ impl<'s, F: FileSystem + Drop> Graph<'s, F> {
         self.messages.error(why, Some(place), Vec::new(self.alloc))
     }
 
+    /// Warns of something in a file.
+    pub(crate) fn warn(
+        &mut self,
+        path: &str,
+        text: &str,
+        at: usize,
+        length: usize,
+        why: String,
+    ) -> Result<(), AllocError>
+        ensures same { self.new.messages.errors ≡ self.old.messages.errors }
+    {
+        let place = self.place(path, text, at, length)?;
+        self.messages.warning(self.alloc, why, Some(place))
+    }
+
     /// Tells what is wrong with a text.
     pub(crate) fn tell_unread(
         &mut self,
@@ -137,15 +193,9 @@ impl<'s, F: FileSystem + Drop> Graph<'s, F> {
         }
         let alloc = self.alloc;
         let ReadError { kind, at } = error;
-        let why = format!(in alloc; "{kind}")?;
         let place = self.place(path, text, at as usize, 1)?;
-        let mut notes = Vec::new(alloc);
-        if let Some(hint) = ending_hint(extension(path)) {
-            notes.push(Note {
-                text: String::from_str(alloc, hint)?,
-                place: None,
-            })?;
-        }
+        let notes = ending_notes(alloc, path)?;
+        let why = format!(in alloc; "{kind}")?;
         self.messages.error(why, Some(place), notes)
     }
 
@@ -155,20 +205,31 @@ impl<'s, F: FileSystem + Drop> Graph<'s, F> {
     {
         let alloc = self.alloc;
         let key = format!(in alloc; "{path}{suffix}")?;
-        if let Some(unit) = self.paths.get(key.as_str()) {
-            return Ok(FoundUnit::Unit(*unit));
+        match self.known(key.as_str()) {
+            Some(unit) => Ok(FoundUnit::Unit(unit)),
+            None => self.read_new(path, key.as_str()),
         }
+    }
+
+    // The module of a file that was not met, by its key.
+    fn read_new(&mut self, path: &str, key: &str) -> Result<FoundUnit, AllocError>
+        ensures { self.old.messages.errors ≤ self.new.messages.errors }
+    {
+        let alloc = self.alloc;
         if !self.is_inside(path) {
             let shown = self.shown(path)?;
             return Ok(FoundUnit::Unread(format!(in alloc; "{shown} lies outside of the root")?));
         }
         match self.files.read(alloc, path) {
             Ok(text) => self.add_file(path, key, text),
-            Err(cause) => {
-                let shown = self.shown(path)?;
-                Ok(FoundUnit::Unread(format!(in alloc; "{shown} cannot be read: {cause}")?))
-            }
+            Err(cause) => Ok(FoundUnit::Unread(self.unread_text(path, &cause)?)),
         }
+    }
+
+    /// That a file cannot be read.
+    pub(crate) fn unread_text(&self, path: &str, cause: &io::Error) -> Result<String, AllocError> {
+        let shown = self.shown(path)?;
+        format!(in self.alloc; "{shown} cannot be read: {cause}")
     }
 
     // Whether a file may be taken in.
@@ -185,26 +246,43 @@ impl<'s, F: FileSystem + Drop> Graph<'s, F> {
     pub(crate) fn add_file(
         &mut self,
         path: &str,
-        key: String,
+        key: &str,
         text: String,
     ) -> Result<FoundUnit, AllocError>
         ensures { self.old.messages.errors ≤ self.new.messages.errors }
     {
-        let alloc = self.alloc;
-        let format = match self.resolver.format(path) {
-            Ok(format) => format,
-            Err(ResolutionError::Memory(error)) => return Err(error),
-            Err(error) => return Ok(FoundUnit::Unread(format!(in alloc; "{error}")?)),
-        };
-        let text = plain_text(alloc, text)?;
+        match self.resolver.format(path) {
+            Ok(format) => self.add_text(path, key, text, format),
+            Err(error) => Ok(FoundUnit::Unread(refusal_text(self.alloc, &error)?)),
+        }
+    }
+
+    // The same of a file of this format.
+    fn add_text(
+        &mut self,
+        path: &str,
+        key: &str,
+        text: String,
+        format: FileFormat,
+    ) -> Result<FoundUnit, AllocError>
+        ensures { self.old.messages.errors ≤ self.new.messages.errors }
+    {
+        let text = plain_text(self.alloc, text)?;
         let unit = if format == FileFormat::Json {
             self.data_unit(path, text)?
         } else {
             self.text_unit(path, text, format)?
         };
+        self.keep(key, unit)
+    }
+
+    // Keeps the module of a file by its key.
+    fn keep(&mut self, key: &str, unit: BundleUnit) -> Result<FoundUnit, AllocError>
+        ensures { self.new.messages.errors ≡ self.old.messages.errors }
+    {
         let at = self.units.len();
-        self.units.push(unit)?;
-        self.paths.insert(key, at)?;
+        push_unit(&mut self.units, unit)?;
+        self.paths.insert(String::from_str(self.alloc, key)?, at)?;
         Ok(FoundUnit::Unit(at))
     }
 
@@ -212,24 +290,32 @@ impl<'s, F: FileSystem + Drop> Graph<'s, F> {
     fn data_unit(&mut self, path: &str, text: String) -> Result<BundleUnit, AllocError>
         ensures { self.old.messages.errors ≤ self.new.messages.errors }
     {
+        let form = FileForm {
+            kind: SourceKind::CommonJs,
+            is_data: true,
+            is_node: false,
+            is_done: false,
+        };
+        match self.data_text(path, text.as_str())? {
+            Some(made) => file_unit(self.alloc, path, made, form),
+            None => file_unit(self.alloc, path, text, form.done()),
+        }
+    }
+
+    // The text of the module that stands for a JSON text; none where that is told to be none.
+    fn data_text(&mut self, path: &str, text: &str) -> Result<Option<String>, AllocError>
+        ensures { self.old.messages.errors ≤ self.new.messages.errors }
+    {
         let alloc = self.alloc;
-        let (text, is_done) = match json_module(alloc, text.as_str()) {
-            Ok(made) => (made, false),
-            Err(JsonError::Memory(error)) => return Err(error),
+        match json_module(alloc, text) {
+            Ok(made) => Ok(Some(made)),
+            Err(JsonError::Memory(error)) => Err(error),
             Err(JsonError::Form { at }) => {
                 let why = format!(in alloc; "this is no JSON, or nests deeper than 128 levels")?;
-                self.fault(path, text.as_str(), at, 1, why)?;
-                (text, true)
+                self.fault(path, text, at, 1, why)?;
+                Ok(None)
             }
-        };
-        let origin = UnitOrigin::File {
-            path: String::from_str(alloc, path)?,
-            text,
-            is_data: true,
-        };
-        let mut unit = BundleUnit::new(alloc, origin, SourceKind::CommonJs);
-        unit.is_done = is_done;
-        Ok(unit)
+        }
     }
 
     // The module of a JavaScript text.
@@ -241,28 +327,32 @@ impl<'s, F: FileSystem + Drop> Graph<'s, F> {
     ) -> Result<BundleUnit, AllocError>
         ensures { self.old.messages.errors ≤ self.new.messages.errors }
     {
-        let alloc = self.alloc;
-        let declared = match format {
-            FileFormat::EcmaScript => DeclaredKind::EcmaScript,
-            FileFormat::CommonJs | FileFormat::Json | FileFormat::Addon => DeclaredKind::CommonJs,
-            FileFormat::Undeclared => DeclaredKind::Nothing,
-        };
-        let (kind, is_done) = match kind_of(alloc, text.as_str(), declared) {
-            Ok(kind) => (kind, false),
-            Err(error) => {
-                self.tell_unread(path, text.as_str(), error)?;
-                (SourceKind::EcmaScript, true)
-            }
-        };
-        let origin = UnitOrigin::File {
-            path: String::from_str(alloc, path)?,
-            text,
+        let form = self.text_form(path, text.as_str(), format)?;
+        file_unit(self.alloc, path, text, form)
+    }
+
+    // What a JavaScript text is read as.
+    fn text_form(
+        &mut self,
+        path: &str,
+        text: &str,
+        format: FileFormat,
+    ) -> Result<FileForm, AllocError>
+        ensures { self.old.messages.errors ≤ self.new.messages.errors }
+    {
+        let form = FileForm {
+            kind: SourceKind::EcmaScript,
             is_data: false,
+            is_node: format == FileFormat::EcmaScript,
+            is_done: false,
         };
-        let mut unit = BundleUnit::new(alloc, origin, kind);
-        unit.is_node = format == FileFormat::EcmaScript;
-        unit.is_done = is_done;
-        Ok(unit)
+        match kind_of(self.alloc, text, declared_kind(format)) {
+            Ok(kind) => Ok(FileForm { kind, ..form }),
+            Err(error) => {
+                self.tell_unread(path, text, error)?;
+                Ok(form.done())
+            }
+        }
     }
 
     /// The module that does this for another one.
@@ -275,8 +365,8 @@ impl<'s, F: FileSystem + Drop> Graph<'s, F> {
         }
         let at = self.units.len();
         let origin = UnitOrigin::Facade { facade, target };
-        self.units
-            .push(BundleUnit::new(self.alloc, origin, facade.kind()))?;
+        let unit = BundleUnit::new(self.alloc, origin, facade.kind());
+        push_unit(&mut self.units, unit)?;
         self.facades.insert(key, at)?;
         Ok(at)
     }
@@ -293,9 +383,9 @@ impl<'s, F: FileSystem + Drop> Graph<'s, F> {
             return Ok(*unit);
         }
         let alloc = self.alloc;
-        let text = format!(in alloc; "module.exports = {expression};")?;
         let at = self.units.len();
-        self.units.push(BundleUnit::new(alloc, UnitOrigin::Text(text), SourceKind::CommonJs))?;
+        let unit = expression_unit(alloc, expression)?;
+        push_unit(&mut self.units, unit)?;
         self.texts.insert(String::from_str(alloc, specifier)?, at)?;
         Ok(at)
     }
@@ -312,10 +402,87 @@ impl<'s, F: FileSystem + Drop> Graph<'s, F> {
 
     /// What a module is.
     pub(crate) fn kind_of(&self, unit: usize) -> SourceKind {
-        self.units
-            .get(unit)
-            .map_or(SourceKind::EcmaScript, |unit| unit.kind)
+        match self.units.get(unit) {
+            Some(unit) => unit.kind,
+            None => SourceKind::EcmaScript,
+        }
     }
+}
+
+fn push_unit(units: &mut Vec<BundleUnit>, unit: BundleUnit) -> Result<(), AllocError> {
+    units.push(unit)?;
+    Ok(())
+}
+
+// What the module of a file is.
+#[derive(Clone, Copy)]
+struct FileForm {
+    kind: SourceKind,
+    is_data: bool,
+    is_node: bool,
+    is_done: bool,
+}
+
+impl FileForm {
+    // The same of a module that is not read.
+    fn done(self) -> FileForm {
+        FileForm {
+            is_done: true,
+            ..self
+        }
+    }
+}
+
+// The module of a file.
+fn file_unit(
+    alloc: Global,
+    path: &str,
+    text: String,
+    form: FileForm,
+) -> Result<BundleUnit, AllocError> {
+    let origin = UnitOrigin::File {
+        path: String::from_str(alloc, path)?,
+        text,
+        is_data: form.is_data,
+    };
+    let mut unit = BundleUnit::new(alloc, origin, form.kind);
+    unit.is_node = form.is_node;
+    unit.is_done = form.is_done;
+    Ok(unit)
+}
+
+// The module that exports the value of an expression.
+fn expression_unit(alloc: Global, expression: &str) -> Result<BundleUnit, AllocError> {
+    let text = format!(in alloc; "module.exports = {expression};")?;
+    Ok(BundleUnit::new(alloc, UnitOrigin::Text(text), SourceKind::CommonJs))
+}
+
+fn declared_kind(format: FileFormat) -> DeclaredKind {
+    match format {
+        FileFormat::EcmaScript => DeclaredKind::EcmaScript,
+        FileFormat::CommonJs | FileFormat::Json | FileFormat::Addon => DeclaredKind::CommonJs,
+        FileFormat::Undeclared => DeclaredKind::Nothing,
+    }
+}
+
+// Why resolution refuses, unless that is memory.
+fn refusal_text(alloc: Global, error: &ResolutionError) -> Result<String, AllocError> {
+    match error {
+        ResolutionError::Memory(_) => Err(AllocError),
+        error => format!(in alloc; "{error}"),
+    }
+}
+
+// What is noted of a file whose text is no JavaScript, by its ending.
+fn ending_notes(alloc: Global, path: &str) -> Result<Vec<Note>, AllocError> {
+    let mut notes = Vec::new(alloc);
+    if let Some(hint) = ending_hint(extension(path)) {
+        notes.push(Note {
+            text: String::from_str(alloc, hint)?,
+            place: None,
+        })?;
+    }
+    Ok(notes)
 }
 
 // What is told of a file with this ending that is no JavaScript.

@@ -1,10 +1,11 @@
 //! Where the requests of a module lead, and what stands for each.
 
-ghost use Rattle.std.specs.Prelude.{◌≤◌};
+ghost use Rattle.std.specs.Prelude.{◌≡◌, ◌≤◌};
 
 use crate::bond::{Bond, Seats};
 use crate::facade::Facade;
 use crate::graph::{Asker, FoundUnit, Graph};
+use crate::settings::BundleSettings;
 use crate::unit::{UnitLink, UnitOrigin, key_of};
 use bundle_syntax::Piece;
 use gutsirava_path::{Loader, Specifier, relative};
@@ -43,11 +44,12 @@ impl<'s, F: FileSystem + Drop> Graph<'s, F> {
             importer: wish.asker.path,
             loader: loader_of(wish.request.asking),
         };
-        match self.resolver.resolve(wanted) {
+        let resolved = self.resolver.resolve(wanted);
+        match &resolved {
             Ok(resolution) => self.bond_resolved(wish, link, resolution),
-            Err(ResolutionError::Memory(error)) => Err(error),
-            Err(_) if wish.request.is_tried => self.stay(wish),
-            Err(error) => self.refuse_unresolved(wish, link, &error),
+            Err(ResolutionError::Memory(_)) => Err(AllocError),
+            Err(_) if wish.request.is_tried => self.stay(wish.request.specifier),
+            Err(error) => self.refuse_unresolved(wish, link, error),
         }
     }
 
@@ -56,37 +58,55 @@ impl<'s, F: FileSystem + Drop> Graph<'s, F> {
         &mut self,
         wish: Wish<'_, '_>,
         link: &mut UnitLink,
-        resolution: Resolved,
+        resolution: &Resolved,
     ) -> Result<Bond, AllocError>
         ensures { self.old.messages.errors ≤ self.new.messages.errors }
     {
-        let alloc = self.alloc;
         match resolution {
-            Resolved::File { path, suffix } => self.bond_file(wish, link, &path, &suffix),
+            Resolved::File { path, suffix } => self.bond_file(wish, link, path, suffix),
             Resolved::Builtin(_) => {
-                if matches!(self.settings.platform, TargetPlatform::Browser) {
-                    self.tell_left(wish, link)?;
-                }
-                let text = String::from_str(alloc, wish.request.specifier)?;
-                self.left(wish, link, text)
+                let is_told = matches!(self.settings.platform, TargetPlatform::Browser);
+                self.bond_outside(wish, link, is_told)
             }
             Resolved::External(_) => {
                 let loader = loader_of(wish.request.asking);
-                if let Specifier::Url(_) = Specifier::of(wish.request.specifier, loader) {
-                    self.tell_left(wish, link)?;
-                }
-                let text = String::from_str(alloc, wish.request.specifier)?;
-                self.left(wish, link, text)
+                let is_told = is_address(wish.request.specifier, loader);
+                self.bond_outside(wish, link, is_told)
             }
-            Resolved::ExternalFile(path) => {
-                let text = self.left_text(path.as_str())?;
-                self.left(wish, link, text)
-            }
+            Resolved::ExternalFile(path) => self.bond_path(wish, link, path),
             Resolved::Empty(_) => {
                 let unit = self.facade(0, Facade::Empty)?;
                 self.bond_to(wish, link, unit)
             }
         }
+    }
+
+    // What stands for a request whose specifier is left, which may have to be told.
+    fn bond_outside(
+        &mut self,
+        wish: Wish<'_, '_>,
+        link: &mut UnitLink,
+        is_told: bool,
+    ) -> Result<Bond, AllocError>
+        ensures { self.old.messages.errors ≤ self.new.messages.errors }
+    {
+        if is_told {
+            self.tell_left(wish, link)?;
+        }
+        self.left(wish, link, wish.request.specifier)
+    }
+
+    // What stands for a request of a file that is left.
+    fn bond_path(
+        &mut self,
+        wish: Wish<'_, '_>,
+        link: &mut UnitLink,
+        path: &str,
+    ) -> Result<Bond, AllocError>
+        ensures { self.old.messages.errors ≤ self.new.messages.errors }
+    {
+        let text = self.left_text(path)?;
+        self.left(wish, link, text.as_str())
     }
 
     // What stands for a request of the file at a path.
@@ -100,8 +120,7 @@ impl<'s, F: FileSystem + Drop> Graph<'s, F> {
         ensures { self.old.messages.errors ≤ self.new.messages.errors }
     {
         if path.ends_with(".node") {
-            let text = self.left_text(path)?;
-            return self.left(wish, link, text);
+            return self.bond_path(wish, link, path);
         }
         match self.discover(path, suffix)? {
             FoundUnit::Unit(unit) => self.bond_to(wish, link, unit),
@@ -120,7 +139,7 @@ impl<'s, F: FileSystem + Drop> Graph<'s, F> {
     {
         let asker = wish.asker;
         self.fault(asker.path, asker.text, link.at, link.length, why)?;
-        self.stay(wish)
+        self.stay(wish.request.specifier)
     }
 
     // Tells why a request is not resolved, and what was tried.
@@ -132,11 +151,17 @@ impl<'s, F: FileSystem + Drop> Graph<'s, F> {
     ) -> Result<Bond, AllocError>
         ensures { self.old.messages.errors ≤ self.new.messages.errors }
     {
-        let alloc = self.alloc;
-        let why = format!(in alloc; "{error}")?;
         let asker = wish.asker;
         let place = self.place(asker.path, asker.text, link.at, link.length)?;
-        let mut notes = Vec::new(alloc);
+        let notes = self.tried_notes(error)?;
+        let why = format!(in self.alloc; "{error}")?;
+        self.messages.error(why, Some(place), notes)?;
+        self.stay(wish.request.specifier)
+    }
+
+    // What is noted of a request that is not resolved.
+    fn tried_notes(&self, error: &ResolutionError) -> Result<Vec<Note>, AllocError> {
+        let mut notes = Vec::new(self.alloc);
         if let ResolutionError::NotFound { tried, .. } = error
             && !tried.is_empty()
         {
@@ -145,8 +170,7 @@ impl<'s, F: FileSystem + Drop> Graph<'s, F> {
                 place: None,
             })?;
         }
-        self.messages.error(why, Some(place), notes)?;
-        self.stay(wish)
+        Ok(notes)
     }
 
     // The paths that were tried, the first ones of them.
@@ -165,12 +189,19 @@ impl<'s, F: FileSystem + Drop> Graph<'s, F> {
     }
 
     // The text of a request stays.
-    fn stay(&mut self, wish: Wish<'_, '_>) -> Result<Bond, AllocError>
+    fn stay(&mut self, text: &str) -> Result<Bond, AllocError>
         ensures { self.old.messages.errors ≤ self.new.messages.errors }
     {
-        let text = String::from_str(self.alloc, wish.request.specifier)?;
-        self.externals.insert(text.clone()?)?;
-        Ok(Bond::Left(text))
+        self.leave(text)?;
+        Bond::to_left(self.alloc, text)
+    }
+
+    // Notes a text that is left.
+    fn leave(&mut self, text: &str) -> Result<(), AllocError>
+        ensures { self.new.messages.errors ≡ self.old.messages.errors }
+    {
+        self.externals.insert(String::from_str(self.alloc, text)?)?;
+        Ok(())
     }
 
     // The path of a file that is left, from where the bundle lies.
@@ -182,15 +213,13 @@ impl<'s, F: FileSystem + Drop> Graph<'s, F> {
     fn tell_left(&mut self, wish: Wish<'_, '_>, link: &UnitLink) -> Result<(), AllocError>
         ensures { self.old.messages.errors ≤ self.new.messages.errors }
     {
-        let alloc = self.alloc;
         let specifier = wish.request.specifier;
-        if !self.told.insert(String::from_str(alloc, specifier)?)? {
+        if !self.told.insert(String::from_str(self.alloc, specifier)?)? {
             return Ok(());
         }
         let asker = wish.asker;
-        let place = self.place(asker.path, asker.text, link.at, link.length)?;
-        let why = format!(in alloc; "{specifier:?} is left as it is")?;
-        self.messages.warning(alloc, why, Some(place))
+        let why = format!(in self.alloc; "{specifier:?} is left as it is")?;
+        self.warn(asker.path, asker.text, link.at, link.length, why)
     }
 
     // What is left under this text: in a module the text; in a script what stands for it.
@@ -198,34 +227,54 @@ impl<'s, F: FileSystem + Drop> Graph<'s, F> {
         &mut self,
         wish: Wish<'_, '_>,
         link: &mut UnitLink,
-        text: String,
+        text: &str,
     ) -> Result<Bond, AllocError>
         ensures { self.old.messages.errors ≤ self.new.messages.errors }
     {
-        let alloc = self.alloc;
-        self.externals.insert(text.clone()?)?;
+        self.leave(text)?;
+        match self.outer_expression(wish, text)? {
+            Some(expression) => self.bond_outer(wish, link, text, expression.as_str()),
+            None => Bond::to_left(self.alloc, text),
+        }
+    }
+
+    // What stands in a script for what is left under this text; none where the text does.
+    fn outer_expression(
+        &self,
+        wish: Wish<'_, '_>,
+        text: &str,
+    ) -> Result<Option<String>, AllocError> {
         let asking = wish.request.asking;
         if !self.is_script() || asking == RequestForm::Dynamic {
-            return Ok(Bond::Left(text));
+            return Ok(None);
         }
-        let settings = self.settings;
-        let given = settings
-            .globals
-            .iter()
-            .find(|pair| pair.0.as_str() == wish.request.specifier);
-        let expression = match given {
-            Some(pair) => pair.1.clone()?,
-            None if asking == RequestForm::Import => format!(in alloc; "require({text:?})")?,
-            None => return Ok(Bond::Left(text)),
-        };
+        if let Some(global) = global_of(self.settings, wish.request.specifier) {
+            return Ok(Some(String::from_str(self.alloc, global)?));
+        }
+        if asking == RequestForm::Import {
+            return Ok(Some(format!(in self.alloc; "require({text:?})")?));
+        }
+        Ok(None)
+    }
+
+    // What stands for a request of what is this expression in a script.
+    fn bond_outer(
+        &mut self,
+        wish: Wish<'_, '_>,
+        link: &mut UnitLink,
+        text: &str,
+        expression: &str,
+    ) -> Result<Bond, AllocError>
+        ensures { self.old.messages.errors ≤ self.new.messages.errors }
+    {
         if parts_of(wish.pieces, wish.request).star {
             let specifier = wish.request.specifier;
-            let why = format!(in alloc;
+            let why = format!(in self.alloc;
                 "export * of {specifier:?}, which is left, in a script: its names are not known"
             )?;
             return self.refuse(wish, link, why);
         }
-        let unit = self.outer_unit(text.as_str(), expression.as_str())?;
+        let unit = self.outer_unit(text, expression)?;
         self.bond_to(wish, link, unit)
     }
 
@@ -238,25 +287,36 @@ impl<'s, F: FileSystem + Drop> Graph<'s, F> {
     ) -> Result<Bond, AllocError>
         ensures { self.old.messages.errors ≤ self.new.messages.errors }
     {
-        let alloc = self.alloc;
         let kind = self.kind_of(unit);
         link.target = Some(unit);
         match wish.request.asking {
-            RequestForm::Import => {
-                let parts = parts_of(wish.pieces, wish.request);
-                if kind == SourceKind::EcmaScript && !parts.namespace {
-                    return Bond::to_module(alloc, unit);
-                }
-                let seats = match kind {
-                    SourceKind::EcmaScript => self.module_seats(unit)?,
-                    SourceKind::CommonJs => self.common_js_seats(wish.asker, parts, unit)?,
-                };
-                Bond::to_parts(alloc, seats)
+            RequestForm::Import => self.bond_parts(wish, unit, kind),
+            RequestForm::Require if kind == SourceKind::CommonJs => {
+                Bond::to_module(self.alloc, unit)
             }
-            RequestForm::Require if kind == SourceKind::CommonJs => Bond::to_module(alloc, unit),
             RequestForm::Require => self.required_module(wish, link, unit),
             RequestForm::Dynamic => self.dynamic(wish, unit, kind),
         }
+    }
+
+    // What stands for an `import` or `export` of a module.
+    fn bond_parts(
+        &mut self,
+        wish: Wish<'_, '_>,
+        unit: usize,
+        kind: SourceKind,
+    ) -> Result<Bond, AllocError>
+        ensures { self.old.messages.errors ≤ self.new.messages.errors }
+    {
+        let parts = parts_of(wish.pieces, wish.request);
+        if kind == SourceKind::EcmaScript && !parts.namespace {
+            return Bond::to_module(self.alloc, unit);
+        }
+        let seats = match kind {
+            SourceKind::EcmaScript => self.module_seats(unit)?,
+            SourceKind::CommonJs => self.common_js_seats(wish.asker, parts, unit)?,
+        };
+        Bond::to_parts(self.alloc, seats)
     }
 
     // What stands for a `require` of an ECMAScript module. Only for CommonJS modules is it in the registry.
@@ -275,7 +335,7 @@ impl<'s, F: FileSystem + Drop> Graph<'s, F> {
         }
         link.target = None;
         if wish.request.is_tried {
-            return self.stay(wish);
+            return self.stay(wish.request.specifier);
         }
         let specifier = wish.request.specifier;
         let why = format!(in self.alloc;
@@ -332,10 +392,10 @@ impl<'s, F: FileSystem + Drop> Graph<'s, F> {
 
     // Whether a module is JSON.
     fn is_data(&self, unit: usize) -> bool {
-        matches!(
-            self.units.get(unit).map(|unit| &unit.origin),
-            Some(UnitOrigin::File { is_data: true, .. })
-        )
+        match self.units.get(unit) {
+            Some(unit) => matches!(unit.origin, UnitOrigin::File { is_data: true, .. }),
+            None => false,
+        }
     }
 
     // What stands for an `import()`.
@@ -348,25 +408,44 @@ impl<'s, F: FileSystem + Drop> Graph<'s, F> {
         ensures { self.old.messages.errors ≤ self.new.messages.errors }
     {
         let is_whole = wish.asker.is_node || self.is_data(unit);
-        let facade = match (wish.asker.kind, kind) {
-            (SourceKind::EcmaScript, SourceKind::EcmaScript) => Facade::LoadModule,
-            (SourceKind::EcmaScript, SourceKind::CommonJs) => {
-                chosen(is_whole, Facade::NodeLoad, Facade::BundlerLoad)
-            }
-            (SourceKind::CommonJs, SourceKind::CommonJs) => {
-                chosen(is_whole, Facade::NodeLoader, Facade::BundlerLoader)
-            }
-            (SourceKind::CommonJs, SourceKind::EcmaScript) => {
-                self.asks_modules = true;
-                Facade::ModuleLoader
-            }
-        };
-        let load = self.facade(unit, facade)?;
-        match wish.asker.kind {
+        let asking = wish.asker.kind;
+        if asking == SourceKind::CommonJs && kind == SourceKind::EcmaScript {
+            self.asks_modules = true;
+        }
+        let load = self.facade(unit, load_facade(asking, kind, is_whole))?;
+        match asking {
             SourceKind::EcmaScript => Bond::to_load(self.alloc, load, wish.number),
             SourceKind::CommonJs => Ok(Bond::Loader(key_of(self.alloc, load)?)),
         }
     }
+}
+
+// What loads a module of this kind for one of another.
+fn load_facade(asking: SourceKind, kind: SourceKind, is_whole: bool) -> Facade {
+    match (asking, kind) {
+        (SourceKind::EcmaScript, SourceKind::EcmaScript) => Facade::LoadModule,
+        (SourceKind::EcmaScript, SourceKind::CommonJs) => {
+            chosen(is_whole, Facade::NodeLoad, Facade::BundlerLoad)
+        }
+        (SourceKind::CommonJs, SourceKind::CommonJs) => {
+            chosen(is_whole, Facade::NodeLoader, Facade::BundlerLoader)
+        }
+        (SourceKind::CommonJs, SourceKind::EcmaScript) => Facade::ModuleLoader,
+    }
+}
+
+// What stands for a specifier in a script, where that is given.
+fn global_of<'s>(settings: &'s BundleSettings, specifier: &str) -> Option<&'s str> {
+    for (name, global) in &settings.globals {
+        if name.as_str() == specifier {
+            return Some(global.as_str());
+        }
+    }
+    None
+}
+
+fn is_address(specifier: &str, loader: Loader) -> bool {
+    matches!(Specifier::of(specifier, loader), Specifier::Url(_))
 }
 
 fn chosen(is_whole: bool, whole: Facade, part: Facade) -> Facade {

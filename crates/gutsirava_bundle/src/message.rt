@@ -47,13 +47,7 @@ impl Messages {
             return Ok(());
         }
         self.errors = self.errors.saturating_add(1);
-        self.list.push(Message {
-            severity: Severity::Error,
-            text,
-            place,
-            notes,
-        })?;
-        Ok(())
+        push_message(&mut self.list, Severity::Error, text, place, notes)
     }
 
     pub(crate) fn warning(
@@ -64,12 +58,28 @@ impl Messages {
     ) -> Result<(), AllocError>
         ensures { self.new.errors ≡ self.old.errors }
     {
-        self.list.push(Message {
-            severity: Severity::Warning,
+        push_message(
+            &mut self.list,
+            Severity::Warning,
             text,
             place,
-            notes: Vec::new(alloc),
-        })?;
-        Ok(())
+            Vec::new(alloc),
+        )
     }
+}
+
+fn push_message(
+    list: &mut Vec<Message>,
+    severity: Severity,
+    text: String,
+    place: Option<FilePlace>,
+    notes: Vec<Note>,
+) -> Result<(), AllocError> {
+    list.push(Message {
+        severity,
+        text,
+        place,
+        notes,
+    })?;
+    Ok(())
 }

@@ -7,13 +7,13 @@ use crate::facade::{Facade, HELPER, NAMESPACE, PUT, REGISTRY, TARGET};
 use crate::graph::{Asker, Graph, MOST_DEPTH};
 use crate::link::Wish;
 use crate::progress::ProgressListener;
-use crate::unit::{BundleUnit, ExportTable, UnitLink, UnitOrigin};
+use crate::unit::{BundleUnit, ExportTable, UnitLink, UnitOrigin, target_of};
 use bundle_syntax::{ExportMetadata, Node, Piece};
 use bundle_tree_ast::Module;
 use bundle_tree_parse::{BuildError, build_module};
 use gutsirava_resolve::FileSystem;
 use gutsirava_sources::{
-    KeptComment, Placed, ReadError, Seat, SourceKind, SourceModule, SourceOutline,
+    Exported, KeptComment, Placed, ReadError, Seat, SourceKind, SourceModule, SourceOutline, Stand,
     common_js_exports, exports_of, outline_of, read_as, rewritten,
 };
 use std::alloc::{AllocError, Global};
@@ -193,14 +193,39 @@ impl<'s, F: FileSystem + Drop> Graph<'s, F> {
         's: 'n,
         ensures { self.old.messages.errors ≤ self.new.messages.errors }
     {
-        let pieces = placed.pieces.as_slice();
-        let outline = outline_of(self.alloc, pieces)?;
+        let outline = outline_of(self.alloc, placed.pieces.as_slice())?;
         self.tell_outline(asker, placed, &outline)?;
-        let BondedRequests { bonds, links } = self.bonds(asker, placed, &outline)?;
-        let table = table_of(self.alloc, asker.kind, pieces, &outline, &bonds, &links)?;
+        let bonded = self.bonds(asker, &*placed, &outline)?;
         let seat = self.seat(asker, is_data, notes);
-        match tree_of(self.alloc, pieces, &outline, &bonds, comments, seat)? {
-            Some(tree) => Ok(Some(Read { tree, links, table })),
+        self.read_bonded(asker, placed, &outline, bonded, comments, seat)
+    }
+
+    // The same where it is known what stands for its requests.
+    fn read_bonded<'a>(
+        &mut self,
+        asker: Asker<'_>,
+        placed: &Placed<'a>,
+        outline: &SourceOutline<'a>,
+        bonded: BondedRequests,
+        comments: &[KeptComment<'_>],
+        seat: Seat<'_>,
+    ) -> Result<Option<Read>, AllocError>
+        ensures { self.old.messages.errors ≤ self.new.messages.errors }
+    {
+        let alloc = self.alloc;
+        let pieces = placed.pieces.as_slice();
+        match tree_of(
+            alloc,
+            pieces,
+            outline,
+            bonded.bonds.as_slice(),
+            comments,
+            seat,
+        )? {
+            Some(tree) => {
+                let read = read_of(alloc, asker.kind, pieces, outline, tree, bonded)?;
+                Ok(Some(read))
+            }
             None => self.tell_internal(asker.path),
         }
     }
@@ -354,7 +379,7 @@ impl<'s, F: FileSystem + Drop> Graph<'s, F> {
     {
         match self.named_unit(specifier, target)? {
             Some(unit) => Bond::to_module(self.alloc, unit),
-            None => Ok(Bond::Left(String::from_str(self.alloc, specifier)?)),
+            None => Bond::to_left(self.alloc, specifier),
         }
     }
 
@@ -397,23 +422,44 @@ impl<'s, F: FileSystem + Drop> Graph<'s, F> {
     ) -> Result<(), AllocError>
         ensures { self.old.messages.errors ≤ self.new.messages.errors }
     {
-        let alloc = self.alloc;
         for piece in &outline.unknown {
-            let word = call_word(placed, *piece);
-            let at = place_of(placed, *piece);
-            let place = self.place(asker.path, asker.text, at, word.len())?;
-            let why = format!(in alloc; "{word}() of what is no literal stays as it is")?;
-            self.messages.warning(alloc, why, Some(place))?;
+            self.tell_call(asker, placed, *piece)?;
         }
-        if let Some(piece) = outline.meta
-            && self.is_script()
-            && self.settings.meta_url.is_none()
-        {
-            let place = self.place(asker.path, asker.text, place_of(placed, piece), 11)?;
-            let why = format!(in alloc; "import.meta is empty in a script")?;
-            self.messages.warning(alloc, why, Some(place))?;
+        match outline.meta {
+            Some(piece) => self.tell_meta(asker, place_of(placed, piece)),
+            None => Ok(()),
         }
-        Ok(())
+    }
+
+    // Tells of a call at a piece that stays.
+    fn tell_call(
+        &mut self,
+        asker: Asker<'_>,
+        placed: &Placed<'_>,
+        piece: usize,
+    ) -> Result<(), AllocError>
+        ensures { self.old.messages.errors ≤ self.new.messages.errors }
+    {
+        let word = call_word(placed, piece);
+        let why = format!(in self.alloc; "{word}() of what is no literal stays as it is")?;
+        self.warn(
+            asker.path,
+            asker.text,
+            place_of(placed, piece),
+            word.len(),
+            why,
+        )
+    }
+
+    // Tells of an `import.meta` that nothing is known of.
+    fn tell_meta(&mut self, asker: Asker<'_>, at: usize) -> Result<(), AllocError>
+        ensures { self.old.messages.errors ≤ self.new.messages.errors }
+    {
+        if !self.is_script() || self.settings.meta_url.is_some() {
+            return Ok(());
+        }
+        let why = format!(in self.alloc; "import.meta is empty in a script")?;
+        self.warn(asker.path, asker.text, at, 11, why)
     }
 }
 
@@ -451,12 +497,33 @@ impl BondedRequests {
     }
 }
 
-// The names that a module exports.
-fn table_of(
+// What was read of a module with this tree.
+fn read_of<'a>(
     alloc: Global,
     kind: SourceKind,
-    pieces: &[Piece<'_>],
-    outline: &SourceOutline<'_>,
+    pieces: &[Piece<'a>],
+    outline: &SourceOutline<'a>,
+    tree: Module,
+    bonded: BondedRequests,
+) -> Result<Read, AllocError> {
+    let BondedRequests { bonds, links } = bonded;
+    let table = table_of(
+        alloc,
+        kind,
+        pieces,
+        outline,
+        bonds.as_slice(),
+        links.as_slice(),
+    )?;
+    Ok(Read { tree, links, table })
+}
+
+// The names that a module exports.
+fn table_of<'a>(
+    alloc: Global,
+    kind: SourceKind,
+    pieces: &[Piece<'a>],
+    outline: &SourceOutline<'a>,
     bonds: &[Bond],
     links: &[UnitLink],
 ) -> Result<ExportTable, AllocError> {
@@ -466,23 +533,38 @@ fn table_of(
     }
 }
 
-fn common_js_table(
+fn common_js_table<'a>(
     alloc: Global,
-    pieces: &[Piece<'_>],
-    outline: &SourceOutline<'_>,
+    pieces: &[Piece<'a>],
+    outline: &SourceOutline<'a>,
     links: &[UnitLink],
 ) -> Result<ExportTable, AllocError> {
     let exports = common_js_exports(alloc, pieces, outline)?;
     let mut table = ExportTable::new(alloc);
-    for name in &exports.names {
+    add_names(alloc, &mut table, exports.names.as_slice())?;
+    add_passed(&mut table, exports.passed.as_slice(), links)?;
+    Ok(table)
+}
+
+fn add_names(alloc: Global, table: &mut ExportTable, names: &[&str]) -> Result<(), AllocError> {
+    for name in names {
         table.add_name(alloc, name)?;
     }
-    for number in &exports.passed {
-        if let Some(target) = links.get(*number).and_then(|link| link.target) {
+    Ok(())
+}
+
+// Adds the modules that these requests lead to, all of whose names are exported.
+fn add_passed(
+    table: &mut ExportTable,
+    passed: &[usize],
+    links: &[UnitLink],
+) -> Result<(), AllocError> {
+    for number in passed {
+        if let Some(target) = target_of(links, *number) {
             table.stars.push(target)?;
         }
     }
-    Ok(table)
+    Ok(())
 }
 
 fn module_table(
@@ -493,24 +575,46 @@ fn module_table(
     links: &[UnitLink],
 ) -> Result<ExportTable, AllocError> {
     let mut table = ExportTable::new(alloc);
-    for export in &exports_of(alloc, pieces)? {
+    let exports = exports_of(alloc, pieces)?;
+    add_exports(alloc, &mut table, exports.as_slice())?;
+    add_stars(&mut table, pieces, outline, bonds, links)?;
+    Ok(table)
+}
+
+fn add_exports(
+    alloc: Global,
+    table: &mut ExportTable,
+    exports: &[Exported<'_>],
+) -> Result<(), AllocError> {
+    for export in exports {
         table.add_name(alloc, export.name)?;
     }
+    Ok(())
+}
+
+// Adds what each `export *` of a module leads to.
+fn add_stars(
+    table: &mut ExportTable,
+    pieces: &[Piece<'_>],
+    outline: &SourceOutline<'_>,
+    bonds: &[Bond],
+    links: &[UnitLink],
+) -> Result<(), AllocError> {
     for (number, request) in outline.requests.iter().enumerate() {
         if is_star(pieces, request.begin) {
-            add_star(&mut table, links.get(number), bonds.get(number))?;
+            add_star(table, target_of(links, number), bonds.get(number))?;
         }
     }
-    Ok(table)
+    Ok(())
 }
 
 // Adds the module all of whose names are exported, or the text that is left of it.
 fn add_star(
     table: &mut ExportTable,
-    link: Option<&UnitLink>,
+    target: Option<usize>,
     bond: Option<&Bond>,
 ) -> Result<(), AllocError> {
-    match (link.and_then(|link| link.target), bond) {
+    match (target, bond) {
         (Some(target), _) => table.stars.push(target)?,
         (None, Some(Bond::Left(text))) => table.outer.push(text.clone()?)?,
         _ => {}
@@ -551,8 +655,25 @@ fn tree_of<'p: 'b, 'c: 'b, 'n: 'b, 'b>(
     seat: Seat<'n>,
 ) -> Result<Option<Module>, AllocError> {
     let stands = stands_of(alloc, bonds)?;
-    let made = rewritten(alloc, pieces, outline, stands.as_slice(), comments, seat)?;
-    match build_module(alloc, made.as_slice()) {
+    rewritten_tree(alloc, pieces, outline, stands.as_slice(), comments, seat)
+}
+
+// The same of these.
+fn rewritten_tree<'p: 'b, 'c: 'b, 'n: 'b, 'b>(
+    alloc: Global,
+    pieces: &[Piece<'p>],
+    outline: &SourceOutline<'_>,
+    stands: &[Stand<'b>],
+    comments: &[KeptComment<'c>],
+    seat: Seat<'n>,
+) -> Result<Option<Module>, AllocError> {
+    let made = rewritten(alloc, pieces, outline, stands, comments, seat)?;
+    built(alloc, made.as_slice())
+}
+
+// The tree of a list; none where it is that of no module.
+fn built(alloc: Global, pieces: &[Piece<'_>]) -> Result<Option<Module>, AllocError> {
+    match build_module(alloc, pieces) {
         Ok(tree) => Ok(Some(tree)),
         Err(BuildError::Form) => Ok(None),
         Err(BuildError::OutOfMemory) => Err(AllocError),

@@ -13,7 +13,6 @@ pub enum OutputFormat {
 }
 
 /// What a bundle is to be.
-#[derive(Drop)]
 pub struct BundleSettings {
     pub format: OutputFormat,
     /// Whether the modules of a cycle run in the order of ECMA-262, and not each statement behind what it needs.
@@ -33,6 +32,26 @@ pub struct BundleSettings {
     /// The folder that paths are told from, and the one in which the bundles lie.
     pub folder: String,
     pub output_folder: String,
+}
+
+/// Lets go of it. Written by hand, so that who lets one go from another crate calls this function, where a derived one
+/// would be proved anew in that crate.
+impl Drop for BundleSettings {
+    fn drop(self) {
+        let BundleSettings {
+            format: _format,
+            in_standard_order: _in_standard_order,
+            platform: _platform,
+            global_name: _global_name,
+            globals: _globals,
+            meta_url: _meta_url,
+            charset: _charset,
+            keeps_comments: _keeps_comments,
+            root: _root,
+            folder: _folder,
+            output_folder: _output_folder,
+        } = self;
+    }
 }
 
 /// What a bundle is made of.

@@ -36,13 +36,26 @@ pub(crate) fn spot_in(
     let Ok(source) = read_as(alloc, text, kind) else {
         return Ok(None);
     };
-    let Ok(placed) = source.pieces(alloc, MOST_DEPTH) else {
-        return Ok(None);
-    };
-    let Some(piece) = spot_piece(alloc, placed.pieces.as_slice(), kind, spot)? else {
-        return Ok(None);
-    };
-    Ok(Some(bounds(text, &placed, piece)))
+    match source.pieces(alloc, MOST_DEPTH) {
+        Ok(placed) => spot_in_list(alloc, text, &placed, kind, spot),
+        Err(_) => Ok(None),
+    }
+}
+
+// The same of the list of the module.
+fn spot_in_list(
+    alloc: Global,
+    text: &str,
+    placed: &Placed<'_>,
+    kind: SourceKind,
+    spot: TextSpot<'_>,
+) -> Result<Option<(usize, usize)>, AllocError>
+    ensures { IfOk result (λ found. IfSome found (λ it. (it.0 ≤ it.1) × (it.1 ≤ length text.now))) }
+{
+    match spot_piece(alloc, placed.pieces.as_slice(), kind, spot)? {
+        Some(piece) => Ok(Some(bounds(text, placed, piece))),
+        None => Ok(None),
+    }
 }
 
 // The piece with which what is looked for begins.

@@ -10,7 +10,6 @@ use std::alloc::{AllocError, Global};
 use std::collections::BTreeSet;
 
 /// Where a module comes from.
-#[derive(Drop)]
 pub(crate) enum UnitOrigin {
     File {
         path: String,
@@ -27,6 +26,24 @@ pub(crate) enum UnitOrigin {
     Text(String),
 }
 
+/// Lets go of it. Written by hand, as for the other parts of a module, so that who lets one go calls this function.
+impl Drop for UnitOrigin {
+    fn drop(self) {
+        match self {
+            UnitOrigin::File {
+                path: _path,
+                text: _text,
+                is_data: _is_data,
+            } => {}
+            UnitOrigin::Facade {
+                facade: _facade,
+                target: _target,
+            } => {}
+            UnitOrigin::Text(_text) => {}
+        }
+    }
+}
+
 /// A module that another one asks for.
 #[derive(Drop)]
 pub(crate) struct UnitLink {
@@ -38,7 +55,6 @@ pub(crate) struct UnitLink {
 }
 
 /// The names that a module exports.
-#[derive(Drop)]
 pub(crate) struct ExportTable {
     /// By itself: of a CommonJS module, those that its text shows.
     pub(crate) names: BTreeSet<String>,
@@ -46,6 +62,17 @@ pub(crate) struct ExportTable {
     pub(crate) stars: Vec<usize>,
     /// The texts of those that are left, of which nothing is known.
     pub(crate) outer: Vec<String>,
+}
+
+/// Lets go of it.
+impl Drop for ExportTable {
+    fn drop(self) {
+        let ExportTable {
+            names: _names,
+            stars: _stars,
+            outer: _outer,
+        } = self;
+    }
 }
 
 impl ExportTable {
@@ -64,7 +91,6 @@ impl ExportTable {
 }
 
 /// A module.
-#[derive(Drop)]
 pub(crate) struct BundleUnit {
     pub(crate) origin: UnitOrigin,
     pub(crate) kind: SourceKind,
@@ -77,6 +103,22 @@ pub(crate) struct BundleUnit {
     pub(crate) tree: Option<Module>,
     pub(crate) links: Vec<UnitLink>,
     pub(crate) table: ExportTable,
+}
+
+/// Lets go of it.
+impl Drop for BundleUnit {
+    fn drop(self) {
+        let BundleUnit {
+            origin: _origin,
+            kind: _kind,
+            is_node: _is_node,
+            is_main: _is_main,
+            is_done: _is_done,
+            tree: _tree,
+            links: _links,
+            table: _table,
+        } = self;
+    }
 }
 
 impl BundleUnit {
@@ -109,6 +151,16 @@ impl BundleUnit {
             UnitOrigin::Facade { .. } | UnitOrigin::Text(_) => "",
         }
     }
+}
+
+/// The path of the file of a module, if it has one.
+pub(crate) fn path_in(units: &[BundleUnit], unit: usize) -> Option<&str> {
+    units.get(unit)?.path()
+}
+
+/// The module to which a link of a module leads.
+pub(crate) fn target_of(links: &[UnitLink], number: usize) -> Option<usize> {
+    links.get(number)?.target
 }
 
 /// The specifier by which a module is asked for in the trees that the linker is handed. No file has one with a NUL.

@@ -27,6 +27,8 @@ impl MemoryFiles<'_> {
 impl FileSystem for MemoryFiles<'_> {
     ghost has_file = { λ _. Unit {0} };
 
+    ghost is_real = { λ _ _. Unit {0} };
+
     fn kind(&self, path: &str) -> io::Result<PathKind> {
         if self.texts.contains_key(path) {
             return Ok(PathKind::File);

@@ -1,5 +1,6 @@
 //! What writing asks of a file system.
-ghost use Rattle.std.specs.Prelude.{◌≡◌, ℕ, List, Bool, true, false, OnOk};
+ghost use Rattle.std.specs.Prelude.{◌≡◌, ℕ, List, Bool, true, false, IfOk, OnOk, string_bytes};
+ghost use Rattle.gutsirava_files.specs.Outputs.{folder_at, place_in};
 
 use std::alloc::Global;
 use std::io;
@@ -26,12 +27,23 @@ pub trait Disk {
     /// Whether a device is at a path.
     ghost has_device: { List ℕ → Bool };
 
+    /// Whether these bytes were written whole to a path: to a file that was made or moved there, or to a device.
+    ghost is_written: { List ℕ → List ℕ → Bool };
+
+    /// Whether a file that is put at the second path, without links, stands at the first one.
+    ghost leads: { List ℕ → List ℕ → Bool };
+
+    /// So it is for a path in what the folder of a file is without links, under the name of the file.
+    ghost leads_below: { (path folder : List ℕ) → leads (folder_at path) folder ≡ true →
+        leads path (place_in folder path) ≡ true };
+
     /// What stands at the path.
     fn standing(&self, path: &str) -> io::Result<DiskKind>
         ensures { result ≡ Ok DiskKind.Device → has_device path.now ≡ true };
 
     /// The path of what stands at a path, without links.
-    fn real_path(&self, alloc: Global, path: &str) -> io::Result<String>;
+    fn real_path(&self, alloc: Global, path: &str) -> io::Result<String>
+        ensures { IfOk result (λ real. leads path.now (string_bytes real) ≡ true) };
 
     /// Makes a folder where nothing stands, in a folder.
     fn make_folder(&self, path: &str) -> io::Result<()>
@@ -39,7 +51,8 @@ pub trait Disk {
 
     /// Makes a file with these bytes where nothing stands. Where it cannot be written whole, it is gone again.
     fn make_file(&self, path: &str, bytes: &[u8]) -> io::Result<()>
-        ensures { OnOk result (has_made path.now ≡ true) };
+        ensures made { OnOk result (has_made path.now ≡ true) }
+        ensures written { OnOk result (is_written path.now bytes.now ≡ true) };
 
     /// Gives a file one name more, where nothing stands.
     fn link(&self, path: &str, new_path: &str) -> io::Result<()>
@@ -53,11 +66,14 @@ pub trait Disk {
     fn rename(&self, from: &str, to: &str) -> io::Result<()>
         requires made { has_made from.now ≡ true }
         requires spares_inputs { is_input to.now ≡ false }
-        ensures { OnOk result (has_made to.now ≡ true) };
+        ensures made { OnOk result (has_made to.now ≡ true) }
+        ensures moved { OnOk result ((bytes : List ℕ) →
+            is_written from.now bytes ≡ true → is_written to.now bytes ≡ true) };
 
     /// Writes bytes to a device.
     fn write_device(&self, path: &str, bytes: &[u8]) -> io::Result<()>
-        requires { has_device path.now ≡ true };
+        requires { has_device path.now ≡ true }
+        ensures { OnOk result (is_written path.now bytes.now ≡ true) };
 
     /// Removes a file.
     fn remove_file(&self, path: &str) -> io::Result<()>

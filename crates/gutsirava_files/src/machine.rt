@@ -1,5 +1,5 @@
 //! The files of the machine.
-ghost use Rattle.std.specs.Prelude.{true, false};
+ghost use Rattle.std.specs.Prelude.{true, false, refl};
 
 use crate::disk::{Disk, DiskKind};
 use gutsirava_resolve::{FileSystem, PathKind};
@@ -22,6 +22,8 @@ impl<'r, R> MachineFiles<'r, R> {
 
 impl<R: System + AllocGlobal> FileSystem for MachineFiles<'_, R> {
     ghost has_file = { λ _. Unit {0} };
+
+    ghost is_real = { λ _ _. Unit {0} };
 
     /// What may not be looked at, is no path, or leads through links without end is `Missing`, as in Node.
     fn kind(&self, path: &str) -> io::Result<PathKind> {
@@ -47,6 +49,12 @@ impl<R: System + AllocGlobal> Disk for MachineFiles<'_, R> {
     ghost is_input = { λ _. false };
 
     ghost has_device = { λ _. true };
+
+    ghost is_written = { λ _ _. true };
+
+    ghost leads = { λ _ _. true };
+
+    ghost leads_below = { λ _ _ _. refl };
 
     fn standing(&self, path: &str) -> io::Result<DiskKind> {
         match fs::metadata(self.0, path) {

@@ -1,5 +1,5 @@
 //! Files and folders that were made here.
-ghost use Rattle.std.specs.Prelude.{◌≡◌, ℕ, List, true, string_bytes};
+ghost use Rattle.std.specs.Prelude.{◌≡◌, ℕ, List, true, IfOk, OnOk, string_bytes};
 
 use crate::disk::Disk;
 use crate::places::OutputPlace;
@@ -26,6 +26,7 @@ impl<D: Disk> Model for MadePath<D> {
 impl<D: Disk + Drop> MadePath<D> {
     fn at(path: String) -> MadePath<D>
         requires { D.has_made (string_bytes path) ≡ true }
+        ensures { result ≡ string_bytes path }
     {
         MadePath {
             path,
@@ -40,7 +41,9 @@ impl<D: Disk + Drop> MadePath<D> {
     }
 
     /// Makes a file with these bytes.
-    pub(crate) fn file(disk: &D, path: String, bytes: &[u8]) -> io::Result<MadePath<D>> {
+    pub(crate) fn file(disk: &D, path: String, bytes: &[u8]) -> io::Result<MadePath<D>>
+        ensures { IfOk result (λ made. D.is_written made bytes.now ≡ true) }
+    {
         disk.make_file(path.as_str(), bytes)?;
         Ok(MadePath::at(path))
     }
@@ -57,14 +60,18 @@ impl<D: Disk + Drop> MadePath<D> {
         alloc: Global,
         disk: &D,
         place: &OutputPlace<D>,
-    ) -> io::Result<MadePath<D>> {
+    ) -> io::Result<MadePath<D>>
+        ensures { OnOk result ((bytes : List ℕ) →
+            D.is_written self.now bytes ≡ true → D.is_written place.now bytes ≡ true) }
+    {
         let path = String::from_str(alloc, place.path())?;
         disk.rename(self.path(), path.as_str())?;
         Ok(MadePath::at(path))
     }
 
     pub(crate) fn path(&self) -> &str
-        ensures { D.has_made result.now ≡ true }
+        ensures made { D.has_made result.now ≡ true }
+        ensures path { result.now ≡ self.now }
     {
         self.path.as_str()
     }

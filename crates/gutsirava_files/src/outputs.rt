@@ -1,12 +1,16 @@
 //! Outputs are written whole or not at all.
-ghost use Rattle.std.specs.Prelude.{◌≡◌, ℕ, List, true, string_bytes};
+ghost use Rattle.std.specs.Prelude.{◌≡◌, ◌++◌, [], ◌∷◌, All, true, map, string_bytes, IfOk, OnOk};
 ghost use Rattle.std.specs.List.{list_any};
 ghost use Rattle.std.specs.Str.{bytes_eq};
+ghost use Rattle.gutsirava_files.specs.Outputs.{folder_at, place_in, AreInputs, IsWrittenTo};
+ghost use Rattle.gutsirava_files.specs.Stages.{wanted_by, wanted_of, IsSent};
 
+use crate::device::DeviceOutput;
 use crate::disk::{Disk, DiskKind};
 use crate::error::{OutputError, disk_error};
 use crate::made::MadePath;
-use crate::places::{Device, OutputPlace};
+use crate::places::OutputPlace;
+use crate::stage::OutputStage;
 use crate::staged::Staged;
 use gutsirava_path::{file_name, folder_of, is_folder_form, join};
 use std::alloc::{AllocError, Global};
@@ -40,15 +44,15 @@ pub fn write_outputs<D: Disk + Drop>(
     inputs: &[String],
     outputs: &[FileOutput<'_>],
 ) -> Result<(), OutputError>
-    requires { (path : List ℕ) → D.is_input path ≡ true
-        → list_any (λ input. bytes_eq (string_bytes input) path) inputs.now ≡ true }
+    requires { AreInputs D.is_input inputs.now }
+    ensures { OnOk result (All (IsWrittenTo D.leads D.has_device D.is_written)
+        (map wanted_of outputs.now)) }
 {
     let mut writer = Writer {
         alloc,
         disk,
         folders: Vec::new(alloc),
-        staged: Vec::new(alloc),
-        devices: Vec::new(alloc),
+        stages: Vec::new(alloc),
         names: 0,
     };
     let written = writer.write(inputs, outputs);
@@ -66,36 +70,62 @@ struct Writer<'d, 'o, D: Disk> {
     disk: &'d D,
     /// The folders that were made, each behind the one that holds it.
     folders: Vec<MadePath<D>>,
-    /// Files, and what they are for.
-    staged: Vec<(Staged<D>, FileOutput<'o>)>,
-    devices: Vec<(Device<'o, D>, FileOutput<'o>)>,
+    /// What becomes of outputs, in their order.
+    stages: Vec<OutputStage<'o, D>>,
     /// How many names were given to temporary files.
     names: u32,
 }
 
 impl<'d, 'o, D: Disk + Drop> Writer<'d, 'o, D> {
     fn write(&mut self, inputs: &[String], outputs: &[FileOutput<'o>]) -> Result<(), OutputError>
-        requires { (path : List ℕ) → D.is_input path ≡ true
-            → list_any (λ input. bytes_eq (string_bytes input) path) inputs.now ≡ true }
+        requires spares { AreInputs D.is_input inputs.now }
+        requires fresh { self.old.stages.items ≡ [] }
+        ensures { OnOk result (All (IsWrittenTo D.leads D.has_device D.is_written)
+            (map wanted_of outputs.now)) }
+    {
+        self.stage_all(inputs, outputs)?;
+        self.send_all()?;
+        self.put_all()
+    }
+
+    /// Writes all outputs to files beside their places.
+    fn stage_all(
+        &mut self,
+        inputs: &[String],
+        outputs: &[FileOutput<'o>],
+    ) -> Result<(), OutputError>
+        requires spares { AreInputs D.is_input inputs.now }
+        requires fresh { self.old.stages.items ≡ [] }
+        ensures { OnOk result (map wanted_by self.new.stages.items ≡ map wanted_of outputs.now) }
     {
         for output in outputs {
             self.stage(inputs, *output)?;
         }
-        for (device, output) in &self.devices {
-            if let Err(cause) = device.write(self.disk, output.bytes) {
-                return Err(disk_error(self.alloc, output.path, cause));
+        Ok(())
+    }
+
+    /// Writes the bytes of all devices.
+    fn send_all(&self) -> Result<(), OutputError>
+        ensures { OnOk result (All (IsSent D.is_written) self.now.stages.items) }
+    {
+        for stage in &self.stages {
+            if let Err(cause) = stage.send(self.disk) {
+                return Err(disk_error(self.alloc, stage.path(), cause));
             }
         }
-        self.put()
+        Ok(())
     }
 
     /// Moves all files to their places. The last one needs no way back.
-    fn put(&mut self) -> Result<(), OutputError> {
-        let count = self.staged.len();
-        for (i, (staged, output)) in self.staged.iter_mut().enumerate() {
-            let is_last = count - i == 1;
-            if let Err(cause) = staged.put(self.alloc, self.disk, !is_last) {
-                return Err(disk_error(self.alloc, output.path, cause));
+    fn put_all(&mut self) -> Result<(), OutputError>
+        requires { All (IsSent D.is_written) self.old.stages.items }
+        ensures { OnOk result (All (IsWrittenTo D.leads D.has_device D.is_written)
+            (map wanted_by self.old.stages.items)) }
+    {
+        let last = self.stages.iter().rposition(|stage| stage.is_file());
+        for (at, stage) in self.stages.iter_mut().enumerate() {
+            if let Err(cause) = stage.put(self.alloc, self.disk, last != Some(at)) {
+                return Err(disk_error(self.alloc, stage.path(), cause));
             }
         }
         Ok(())
@@ -103,8 +133,9 @@ impl<'d, 'o, D: Disk + Drop> Writer<'d, 'o, D> {
 
     /// Writes an output to a file beside its place.
     fn stage(&mut self, inputs: &[String], output: FileOutput<'o>) -> Result<(), OutputError>
-        requires { (path : List ℕ) → D.is_input path ≡ true
-            → list_any (λ input. bytes_eq (string_bytes input) path) inputs.now ≡ true }
+        requires { AreInputs D.is_input inputs.now }
+        ensures { OnOk result (map wanted_by self.new.stages.items
+            ≡ map wanted_by self.old.stages.items ++ wanted_of output.entry ∷ []) }
     {
         let path = output.path;
         let kind = match self.disk.standing(path) {
@@ -114,7 +145,8 @@ impl<'d, 'o, D: Disk + Drop> Writer<'d, 'o, D> {
         match kind {
             DiskKind::Folder => Err(self.folder_error(path)),
             DiskKind::Device => {
-                self.devices.push((Device::new(path), output))?;
+                self.stages
+                    .push(OutputStage::Device(DeviceOutput::new(output)))?;
                 Ok(())
             }
             DiskKind::File => {
@@ -136,20 +168,25 @@ impl<'d, 'o, D: Disk + Drop> Writer<'d, 'o, D> {
         is_taken: bool,
         output: FileOutput<'o>,
     ) -> Result<(), OutputError>
-        requires { (path : List ℕ) → D.is_input path ≡ true
-            → list_any (λ input. bytes_eq (string_bytes input) path) inputs.now ≡ true }
+        requires spares { AreInputs D.is_input inputs.now }
+        requires fits { D.leads output.path.now (string_bytes real) ≡ true }
+        ensures { OnOk result (map wanted_by self.new.stages.items
+            ≡ map wanted_by self.old.stages.items ++ wanted_of output.entry ∷ []) }
     {
         let place = self.place(inputs, output.path, real, is_taken)?;
         let temporary = self.write_beside(&place, output)?;
-        self.keep(Staged::new(place, temporary), output)
+        self.keep(Staged::new(output, place, temporary))
     }
 
     /// Remembers a file that is written.
-    fn keep(&mut self, staged: Staged<D>, output: FileOutput<'o>) -> Result<(), OutputError> {
-        match self.staged.push((staged, output)) {
+    fn keep(&mut self, staged: Staged<'o, D>) -> Result<(), OutputError>
+        ensures { OnOk result (map wanted_by self.new.stages.items
+            ≡ map wanted_by self.old.stages.items ++ wanted_of staged.entry.output ∷ []) }
+    {
+        match self.stages.push(OutputStage::File(staged)) {
             Ok(()) => Ok(()),
             Err(failed) => {
-                failed.value.0.undo(self.alloc, self.disk);
+                failed.value.undo(self.alloc, self.disk);
                 Err(OutputError::Memory(AllocError))
             }
         }
@@ -163,15 +200,15 @@ impl<'d, 'o, D: Disk + Drop> Writer<'d, 'o, D> {
         real: String,
         is_taken: bool,
     ) -> Result<OutputPlace<D>, OutputError>
-        requires { (path : List ℕ) → D.is_input path ≡ true
-            → list_any (λ input. bytes_eq (string_bytes input) path) inputs.now ≡ true }
+        requires { AreInputs D.is_input inputs.now }
+        ensures { IfOk result (λ place. place ≡ string_bytes real) }
     {
         if has_path(inputs, real.as_str()) {
             return Err(OutputError::Input {
                 path: String::from_str(self.alloc, path)?,
             });
         }
-        if self.staged.iter().any(|(it, _)| it.is_at(real.as_str())) {
+        if self.stages.iter().any(|it| it.is_at(real.as_str())) {
             return Err(OutputError::Duplicate {
                 path: String::from_str(self.alloc, path)?,
             });
@@ -180,36 +217,48 @@ impl<'d, 'o, D: Disk + Drop> Writer<'d, 'o, D> {
     }
 
     /// The path of a new file, without links. Its folder is made where it is missing.
-    fn new_path(&mut self, path: &str) -> Result<String, OutputError> {
+    fn new_path(&mut self, path: &str) -> Result<String, OutputError>
+        ensures same { self.new.stages ≡ self.old.stages }
+        ensures fits { IfOk result (λ it. D.leads path.now (string_bytes it) ≡ true) }
+    {
         if is_folder_form(path) {
             return Err(self.folder_error(path));
         }
-        let folder = match folder_of(path) {
-            "" => ".",
-            folder => folder,
-        };
+        let folder = folder_at(path);
         self.make_folders(path, folder)?;
-        let folder = self.real_path(path, folder)?;
-        Ok(join(self.alloc, folder.as_str(), file_name(path))?)
+        let real = self.real_path(path, folder)?;
+        Ok(place_in(self.alloc, real.as_str(), path)?)
     }
 
     /// Makes a folder of an output, and those that hold it, where they are missing.
-    fn make_folders(&mut self, path: &str, folder: &str) -> Result<(), OutputError> {
+    fn make_folders(&mut self, path: &str, folder: &str) -> Result<(), OutputError>
+        ensures { self.new.stages ≡ self.old.stages }
+    {
         let mut here = String::new(self.alloc);
         for part in folder.split('/') {
-            here.push_str(part)?;
-            if !part.is_empty() {
-                if let Err(cause) = self.make_folder(here.as_str()) {
-                    return Err(disk_error(self.alloc, path, cause));
-                }
-            }
-            here.push('/')?;
+            self.make_part(path, &mut here, part)?;
         }
         Ok(())
     }
 
+    /// Goes one folder further, which is made where it is missing.
+    fn make_part(&mut self, path: &str, here: &mut String, part: &str) -> Result<(), OutputError>
+        ensures { self.new.stages ≡ self.old.stages }
+    {
+        here.push_str(part)?;
+        if !part.is_empty() {
+            if let Err(cause) = self.make_folder(here.as_str()) {
+                return Err(disk_error(self.alloc, path, cause));
+            }
+        }
+        here.push('/')?;
+        Ok(())
+    }
+
     /// Makes a folder where nothing stands.
-    fn make_folder(&mut self, folder: &str) -> io::Result<()> {
+    fn make_folder(&mut self, folder: &str) -> io::Result<()>
+        ensures { self.new.stages ≡ self.old.stages }
+    {
         if self.disk.standing(folder)? != DiskKind::Missing {
             return Ok(());
         }
@@ -226,7 +275,10 @@ impl<'d, 'o, D: Disk + Drop> Writer<'d, 'o, D> {
         &mut self,
         place: &OutputPlace<D>,
         output: FileOutput<'o>,
-    ) -> Result<MadePath<D>, OutputError> {
+    ) -> Result<MadePath<D>, OutputError>
+        ensures same { self.new.stages ≡ self.old.stages }
+        ensures whole { IfOk result (λ it. D.is_written it output.entry.bytes.now ≡ true) }
+    {
         let folder = folder_of(place.path());
         for _ in 0..MOST_NAMES {
             let path = self.temporary_path(folder)?;
@@ -241,7 +293,9 @@ impl<'d, 'o, D: Disk + Drop> Writer<'d, 'o, D> {
     }
 
     /// A path in a folder, which no other temporary file of this writer has.
-    fn temporary_path(&mut self, folder: &str) -> Result<String, AllocError> {
+    fn temporary_path(&mut self, folder: &str) -> Result<String, AllocError>
+        ensures { self.new.stages ≡ self.old.stages }
+    {
         let number = self.names;
         self.names = number.wrapping_add(1);
         let name = format!(in self.alloc; ".gutsirava-{number}")?;
@@ -249,7 +303,9 @@ impl<'d, 'o, D: Disk + Drop> Writer<'d, 'o, D> {
     }
 
     /// The path of what stands at `folder`, without links; `path` is what an error tells.
-    fn real_path(&self, path: &str, folder: &str) -> Result<String, OutputError> {
+    fn real_path(&self, path: &str, folder: &str) -> Result<String, OutputError>
+        ensures { IfOk result (λ it. D.leads folder.now (string_bytes it) ≡ true) }
+    {
         match self.disk.real_path(self.alloc, folder) {
             Ok(real) => Ok(real),
             Err(cause) => Err(disk_error(self.alloc, path, cause)),
@@ -265,20 +321,35 @@ impl<'d, 'o, D: Disk + Drop> Writer<'d, 'o, D> {
 
     /// Removes what replaced files were kept by.
     fn forget_old(&self) {
-        for (staged, _) in &self.staged {
-            staged.forget_old(self.disk);
+        for stage in &self.stages {
+            stage.forget_old(self.disk);
         }
     }
 
     /// Takes back what was done, the last first.
     fn undo(&self) {
-        for (staged, _) in self.staged.iter().rev() {
-            staged.undo(self.alloc, self.disk);
+        for stage in self.stages.iter().rev() {
+            stage.undo(self.alloc, self.disk);
         }
         for folder in self.folders.iter().rev() {
             let _ = self.disk.remove_folder(folder.path());
         }
     }
+}
+
+/// The folder of a file: where its path has none, the one that is worked in.
+fn folder_at(path: &str) -> &str
+    ensures { result.now ≡ folder_at path.now }
+{
+    let folder = folder_of(path);
+    if folder.is_empty() { "." } else { folder }
+}
+
+/// A place in a folder, under the name of a file.
+fn place_in(alloc: Global, folder: &str, path: &str) -> Result<String, AllocError>
+    ensures { IfOk result (λ place. string_bytes place ≡ place_in folder.now path.now) }
+{
+    join(alloc, folder, file_name(path))
 }
 
 /// Whether a path is one of these.

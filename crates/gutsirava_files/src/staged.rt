@@ -1,25 +1,40 @@
-//! Outputs on their way.
+//! Outputs that are written beside their places.
+ghost use Rattle.std.specs.Prelude.{◌≡◌, true, OnOk};
+ghost use Rattle.gutsirava_files.specs.Outputs.{IsFileAt};
 
 use crate::disk::Disk;
 use crate::made::MadePath;
+use crate::outputs::FileOutput;
 use crate::places::OutputPlace;
 use std::alloc::Global;
 use std::io;
 
 /// An output that is written to a file beside its place.
 #[derive(Drop)]
-pub(crate) struct Staged<D: Disk> {
+pub(crate) struct Staged<'o, D: Disk> {
+    pub(crate) output: FileOutput<'o>,
     place: OutputPlace<D>,
     temporary: MadePath<D>,
     /// What stood at the place, by another name.
     aside: Option<MadePath<D>>,
     /// The output at its place, once it is there.
     placed: Option<MadePath<D>>,
+    ghost fits: { D.leads output.path.now place ≡ true },
+    ghost whole: { D.is_written temporary output.bytes.now ≡ true },
 }
 
-impl<D: Disk + Drop> Staged<D> {
-    pub(crate) fn new(place: OutputPlace<D>, temporary: MadePath<D>) -> Staged<D> {
+impl<'o, D: Disk + Drop> Staged<'o, D> {
+    pub(crate) fn new(
+        output: FileOutput<'o>,
+        place: OutputPlace<D>,
+        temporary: MadePath<D>,
+    ) -> Staged<'o, D>
+        requires fits { D.leads output.path.now place ≡ true }
+        requires whole { D.is_written temporary output.bytes.now ≡ true }
+        ensures { result.output ≡ output.entry }
+    {
         Staged {
+            output,
             place,
             temporary,
             aside: None,
@@ -33,7 +48,11 @@ impl<D: Disk + Drop> Staged<D> {
     }
 
     /// Moves the output to its place. With `keeps_old` it can be taken back from there, if the file system has links.
-    pub(crate) fn put(&mut self, alloc: Global, disk: &D, keeps_old: bool) -> io::Result<()> {
+    pub(crate) fn put(&mut self, alloc: Global, disk: &D, keeps_old: bool) -> io::Result<()>
+        ensures same { self.new.output ≡ self.old.output }
+        ensures there { OnOk result (IsFileAt D.leads D.is_written
+            self.old.output.path.now self.old.output.bytes.now) }
+    {
         if self.place.is_taken() {
             let _ = disk.copy_permissions(self.place.path(), self.temporary.path());
             if keeps_old {
@@ -45,7 +64,11 @@ impl<D: Disk + Drop> Staged<D> {
     }
 
     /// Keeps what stands at the place.
-    fn keep_old(&mut self, alloc: Global, disk: &D) -> io::Result<()> {
+    fn keep_old(&mut self, alloc: Global, disk: &D) -> io::Result<()>
+        ensures output { self.new.output ≡ self.old.output }
+        ensures place { self.new.place ≡ self.old.place }
+        ensures temporary { self.new.temporary ≡ self.old.temporary }
+    {
         let temporary = self.temporary.path();
         let path = format!(in alloc; "{temporary}-old")?;
         if let Ok(aside) = MadePath::link(disk, &self.place, path) {

@@ -1,2 +1,4 @@
+pub mod Fields
 pub mod Located
 pub mod Patterns
+pub mod Read

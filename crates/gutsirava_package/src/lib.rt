@@ -8,6 +8,6 @@ mod read;
 mod segments;
 mod target;
 
-pub use lookup::{Located, TargetError};
+pub use lookup::{Located, TargetError, TargetFault};
 pub use package::{Browser, Package, PackageError, PackageType};
 pub use target::PackageTarget;

@@ -1,7 +1,7 @@
 //! Which file of a package an entry of `exports` or `imports` names: PACKAGE_EXPORTS_RESOLVE, PACKAGE_IMPORTS_RESOLVE
 //! and PACKAGE_TARGET_RESOLVE of Node's documentation.
-ghost use Rattle.std.specs.Prelude.{◌≡◌, false, IfOk};
-ghost use Rattle.gutsirava_package.specs.Located.{IsInside, IsInsideOf};
+ghost use Rattle.std.specs.Prelude.{◌≡◌, ◌⊎◌, false, true, IfOk, IsSome, OnOk, string_bytes};
+ghost use Rattle.gutsirava_package.specs.Located.{IsInside, IsInsideOf, IsPlace, is_inner, is_no_import};
 
 use crate::package::Package;
 use crate::patterns::best_pattern;
@@ -9,7 +9,7 @@ use crate::segments::has_forbidden_part;
 use crate::target::PackageTarget;
 use gutsirava_path::{Loader, Specifier};
 use std::alloc::{AllocError, Global};
-use thiserror::Error;
+use std::fmt;
 
 /// A path that patterns make may be this long, in bytes: more than any file's.
 const MOST_PATH: usize = 65_535;
@@ -23,34 +23,124 @@ pub enum Located {
     Bare(String),
 }
 
-/// Why `exports` or `imports` give nothing. The names are those of Node's errors.
-#[derive(Debug, Drop, Error)]
-pub enum TargetError {
-    /// ERR_PACKAGE_PATH_NOT_EXPORTED
-    #[error("\"exports\" does not name {subpath:?} under these conditions")]
-    NotExported { subpath: String },
-    /// ERR_PACKAGE_IMPORT_NOT_DEFINED
-    #[error("\"imports\" does not name {name:?} under these conditions")]
-    ImportNotDefined { name: String },
-    /// ERR_INVALID_PACKAGE_TARGET
-    #[error("{key:?} names {target:?}, which is no target: it begins with \"./\" and has no part \".\", \"..\" or \"node_modules\"")]
-    InvalidTarget { key: String, target: String },
-    /// ERR_INVALID_PACKAGE_CONFIG
-    #[error("\"exports\" has keys that begin with \".\" beside keys that do not")]
+/// What is wrong with what `exports` or `imports` have for an entry. The names are those of Node's errors.
+#[derive(Clone, Copy, PartialEq, Eq)]
+pub enum TargetFault {
+    /// ERR_PACKAGE_PATH_NOT_EXPORTED: nothing is named for the subpath `key`.
+    NotExported,
+    /// ERR_PACKAGE_IMPORT_NOT_DEFINED: nothing is named for the name `key`.
+    ImportNotDefined,
+    /// ERR_INVALID_PACKAGE_TARGET: `key` names `other`, which is no target.
+    InvalidTarget,
+    /// ERR_INVALID_PACKAGE_CONFIG: `exports` has keys of both sorts.
     MixedKeys,
-    /// ERR_INVALID_PACKAGE_CONFIG
-    #[error("{key:?} has conditions, of which {condition:?} is a number")]
-    NumericCondition { key: String, condition: String },
-    /// ERR_INVALID_MODULE_SPECIFIER
-    #[error("{specifier:?} fits {key:?} with a part \".\", \"..\" or \"node_modules\"")]
-    InvalidSubpath { specifier: String, key: String },
-    /// ERR_INVALID_MODULE_SPECIFIER
-    #[error("{name:?} is no name of an entry of \"imports\"")]
-    InvalidImportName { name: String },
-    #[error("the path of {key:?} is longer than 65,535 bytes")]
-    TooLong { key: String },
-    #[error(transparent)]
-    Memory(#[from(alloc)] AllocError),
+    /// ERR_INVALID_PACKAGE_CONFIG: `key` has the condition `other`, which is a number.
+    NumericCondition,
+    /// ERR_INVALID_MODULE_SPECIFIER: the specifier `key` fits `other`, and leads elsewhere.
+    InvalidSubpath,
+    /// ERR_INVALID_MODULE_SPECIFIER: `key` is no name of an entry of `imports`.
+    InvalidImportName,
+    /// The path of `key` is too long.
+    TooLong,
+}
+
+/// Why `exports` or `imports` give nothing.
+pub enum TargetError {
+    /// What is wrong, and the texts that it is wrong with; they are empty where it names none.
+    Fault {
+        fault: TargetFault,
+        key: String,
+        other: String,
+    },
+    Memory(AllocError),
+}
+
+impl Drop for TargetError {
+    fn drop(self) {
+        match self {
+            TargetError::Fault {
+                fault: _fault,
+                key: _key,
+                other: _other,
+            } => {}
+            TargetError::Memory(_refused) => {}
+        }
+    }
+}
+
+/// The words of a sentence round the texts that it names.
+#[derive(Clone, Copy)]
+enum Sentence {
+    Bare(&'static str),
+    OfOne(&'static str, &'static str),
+    OfTwo(&'static str, &'static str, &'static str),
+}
+
+impl TargetFault {
+    fn sentence(self) -> Sentence {
+        match self {
+            TargetFault::NotExported => {
+                Sentence::OfOne("\"exports\" does not name ", " under these conditions")
+            }
+            TargetFault::ImportNotDefined => {
+                Sentence::OfOne("\"imports\" does not name ", " under these conditions")
+            }
+            TargetFault::InvalidTarget => Sentence::OfTwo(
+                "",
+                " names ",
+                ", which is no target: it begins with \"./\" and has no part \".\", \"..\" or \"node_modules\"",
+            ),
+            TargetFault::MixedKeys => Sentence::Bare(
+                "\"exports\" has keys that begin with \".\" beside keys that do not",
+            ),
+            TargetFault::NumericCondition => {
+                Sentence::OfTwo("", " has conditions, of which ", " is a number")
+            }
+            TargetFault::InvalidSubpath => Sentence::OfTwo(
+                "",
+                " fits ",
+                " with a part \".\", \"..\" or \"node_modules\"",
+            ),
+            TargetFault::InvalidImportName => {
+                Sentence::OfOne("", " is no name of an entry of \"imports\"")
+            }
+            TargetFault::TooLong => {
+                Sentence::OfOne("the path of ", " is longer than 65,535 bytes")
+            }
+        }
+    }
+}
+
+impl TargetError {
+    /// What is wrong with these texts; where memory is refused for them, that.
+    fn of(alloc: Global, fault: TargetFault, key: &str, other: &str) -> TargetError {
+        match (String::from_str(alloc, key), String::from_str(alloc, other)) {
+            (Ok(key), Ok(other)) => TargetError::Fault { fault, key, other },
+            _ => TargetError::Memory(AllocError),
+        }
+    }
+}
+
+/// Writes what is wrong, in a sentence without a full stop.
+impl fmt::Display for TargetError {
+    fn fmt<W: fmt::Write>(&self, f: &mut fmt::Formatter<W>) -> fmt::Result {
+        match self {
+            TargetError::Fault { fault, key, other } => match fault.sentence() {
+                Sentence::Bare(text) => write!(f, "{text}"),
+                Sentence::OfOne(front, behind) => write!(f, "{front}{key:?}{behind}"),
+                Sentence::OfTwo(front, between, behind) => {
+                    write!(f, "{front}{key:?}{between}{other:?}{behind}")
+                }
+            },
+            TargetError::Memory(_) => write!(f, "memory allocation failed"),
+        }
+    }
+}
+
+impl From<AllocError> for TargetError {
+    fn from(refused: AllocError) -> TargetError {
+        TargetError::Memory(refused)
+    }
 }
 
 /// What a target gives: something, an end (`null`), or nothing, so that the next condition is tried.
@@ -62,7 +152,7 @@ enum TargetOutcome {
 }
 
 /// One look-up: for which entry, and under which conditions.
-#[derive(Drop)]
+#[derive(Clone, Copy)]
 struct Lookup<'a> {
     alloc: Global,
     conditions: &'a [String],
@@ -90,9 +180,12 @@ impl Package {
         };
         match outcome {
             TargetOutcome::Found(located) => Ok(located),
-            TargetOutcome::Null | TargetOutcome::Nothing => Err(TargetError::NotExported {
-                subpath: String::from_str(alloc, subpath)?,
-            }),
+            TargetOutcome::Null | TargetOutcome::Nothing => Err(TargetError::of(
+                alloc,
+                TargetFault::NotExported,
+                subpath,
+                "",
+            )),
         }
     }
 
@@ -102,23 +195,49 @@ impl Package {
         alloc: Global,
         name: &str,
         conditions: &[String],
-    ) -> Result<Located, TargetError> {
-        if name == "#" || name.starts_with("#/") || name.ends_with('/') {
-            let name = String::from_str(alloc, name)?;
-            return Err(TargetError::InvalidImportName { name });
+    ) -> Result<Located, TargetError>
+        ensures named { OnOk result (is_no_import name.now ≡ false) }
+        ensures has_entries { OnOk result (IsSome self.now.imports) }
+        ensures place { IfOk result IsPlace }
+    {
+        if is_no_import(name) {
+            return Err(TargetError::of(alloc, TargetFault::InvalidImportName, name, ""));
         }
         let outcome = match &self.imports {
-            Some(PackageTarget::Object(entries)) => find_entry(
-                alloc, entries, name, conditions, true,
-            )?,
-            _ => TargetOutcome::Nothing,
+            Some(imports) => find_import(alloc, imports, name, conditions)?,
+            None => TargetOutcome::Nothing,
         };
         match outcome {
             TargetOutcome::Found(located) => Ok(located),
-            TargetOutcome::Null | TargetOutcome::Nothing => Err(TargetError::ImportNotDefined {
-                name: String::from_str(alloc, name)?,
-            }),
+            TargetOutcome::Null | TargetOutcome::Nothing => Err(TargetError::of(
+                alloc,
+                TargetFault::ImportNotDefined,
+                name,
+                "",
+            )),
         }
+    }
+}
+
+/// Whether a name is none of an entry of `imports`.
+fn is_no_import(name: &str) -> bool
+    ensures { result ≡ is_no_import name.now }
+{
+    name == "#" || name.starts_with("#/") || name.ends_with('/')
+}
+
+/// What `imports` gives.
+fn find_import<'a>(
+    alloc: Global,
+    imports: &'a PackageTarget,
+    name: &'a str,
+    conditions: &'a [String],
+) -> Result<TargetOutcome, TargetError>
+    ensures { IfOk result (IsInsideOf true) }
+{
+    match imports {
+        PackageTarget::Object(entries) => find_entry(alloc, entries, name, conditions, true),
+        _ => Ok(TargetOutcome::Nothing),
     }
 }
 
@@ -132,7 +251,7 @@ fn find_export<'a>(
     ensures { IfOk result (IsInsideOf false) }
 {
     if let PackageTarget::Object(entries) = exports {
-        if has_subpaths(entries)? {
+        if has_subpaths(alloc, entries)? {
             if subpath.ends_with('/') || subpath.contains('*') {
                 return find_pattern(alloc, entries, subpath, conditions, false);
             }
@@ -153,7 +272,7 @@ fn find_export<'a>(
 }
 
 /// Whether the keys are subpaths, which begin with `.`, and not conditions.
-fn has_subpaths(entries: &[(String, PackageTarget)]) -> Result<bool, TargetError> {
+fn has_subpaths(alloc: Global, entries: &[(String, PackageTarget)]) -> Result<bool, TargetError> {
     let mut has_subpath = false;
     let mut has_condition = false;
     for (key, _) in entries {
@@ -164,7 +283,7 @@ fn has_subpaths(entries: &[(String, PackageTarget)]) -> Result<bool, TargetError
         }
     }
     if has_subpath && has_condition {
-        return Err(TargetError::MixedKeys);
+        return Err(TargetError::of(alloc, TargetFault::MixedKeys, "", ""));
     }
     Ok(!has_condition)
 }
@@ -242,7 +361,7 @@ impl Lookup<'_> {
             }
             PackageTarget::Alternatives(targets) => self.resolve_alternatives(targets),
             PackageTarget::Null => Ok(TargetOutcome::Null),
-            PackageTarget::Other => Err(self.invalid_target("a number or a truth value")?),
+            PackageTarget::Other => Err(self.invalid_target("a number or a truth value")),
         }
     }
 
@@ -283,10 +402,7 @@ impl Lookup<'_> {
             if is_end(&outcome) {
                 return outcome;
             }
-            match outcome {
-                Ok(TargetOutcome::Nothing) => {}
-                outcome => last = outcome,
-            }
+            last = later(last, outcome);
         }
         last
     }
@@ -299,10 +415,8 @@ impl Lookup<'_> {
     fn check_conditions(&self, entries: &[(String, PackageTarget)]) -> Result<(), TargetError> {
         for (condition, _) in entries {
             if is_array_index(condition.as_str()) {
-                return Err(TargetError::NumericCondition {
-                    key: String::from_str(self.alloc, self.key)?,
-                    condition: condition.clone()?,
-                });
+                let fault = TargetFault::NumericCondition;
+                return Err(TargetError::of(self.alloc, fault, self.key, condition.as_str()));
             }
         }
         Ok(())
@@ -310,24 +424,38 @@ impl Lookup<'_> {
 
     /// What a text names.
     fn locate(&self, text: &str) -> Result<Located, TargetError>
-        ensures { IfOk result (λ l. self.now.is_import ≡ false → IsInside l) }
+        ensures place { IfOk result IsPlace }
+        ensures inside { IfOk result (λ l. self.now.is_import ≡ false → IsInside l) }
     {
-        let Some(path) = text.strip_prefix("./") else {
-            if self.is_import && is_package(text) {
-                return Ok(Located::Bare(self.insert_star(text)?));
+        match text.strip_prefix("./") {
+            Some(path) => Ok(Located::Inside(self.inner_address(text, path)?)),
+            None => {
+                if self.is_import && is_package(text) {
+                    return Ok(Located::Bare(self.insert_star(text)?));
+                }
+                Err(self.invalid_target(text))
             }
-            return Err(self.invalid_target(text)?);
-        };
+        }
+    }
+
+    /// The address of a path in the package, which stands behind `./` in a text.
+    fn inner_address(&self, text: &str, path: &str) -> Result<String, TargetError>
+        ensures { IfOk result (λ address. is_inner (string_bytes address) ≡ true) }
+    {
         if has_forbidden_part(path) {
-            return Err(self.invalid_target(text)?);
+            return Err(self.invalid_target(text));
         }
         if self.star.is_some_and(has_forbidden_part) {
-            return Err(TargetError::InvalidSubpath {
-                specifier: self.insert_star(self.key)?,
-                key: String::from_str(self.alloc, self.key)?,
-            });
+            return Err(self.invalid_subpath(self.insert_star(self.key)?.as_str()));
         }
-        Ok(Located::Inside(self.insert_star(text)?))
+        let Some(star) = self.star else {
+            return Ok(format!(in self.alloc; "./{path}")?);
+        };
+        if length_with_star(text, star) > MOST_PATH {
+            return Err(self.too_long());
+        }
+        let inner = with_star(self.alloc, path, star)?;
+        Ok(format!(in self.alloc; "./{inner}")?)
     }
 
     /// The text with each `*` replaced by what the key's stands for.
@@ -336,17 +464,21 @@ impl Lookup<'_> {
             return Ok(String::from_str(self.alloc, text)?);
         };
         if length_with_star(text, star) > MOST_PATH {
-            let key = String::from_str(self.alloc, self.key)?;
-            return Err(TargetError::TooLong { key });
+            return Err(self.too_long());
         }
         Ok(with_star(self.alloc, text, star)?)
     }
 
-    fn invalid_target(&self, target: &str) -> Result<TargetError, AllocError> {
-        Ok(TargetError::InvalidTarget {
-            key: String::from_str(self.alloc, self.key)?,
-            target: String::from_str(self.alloc, target)?,
-        })
+    fn invalid_target(&self, target: &str) -> TargetError {
+        TargetError::of(self.alloc, TargetFault::InvalidTarget, self.key, target)
+    }
+
+    fn too_long(&self) -> TargetError {
+        TargetError::of(self.alloc, TargetFault::TooLong, self.key, "")
+    }
+
+    fn invalid_subpath(&self, specifier: &str) -> TargetError {
+        TargetError::of(self.alloc, TargetFault::InvalidSubpath, specifier, self.key)
     }
 }
 
@@ -382,12 +514,27 @@ fn is_package(text: &str) -> bool {
     }
 }
 
+/// Of what two alternatives give, the second, where it gives something.
+fn later(
+    first: Result<TargetOutcome, TargetError>,
+    second: Result<TargetOutcome, TargetError>,
+) -> Result<TargetOutcome, TargetError>
+    ensures { (result ≡ first) ⊎ (result ≡ second) }
+{
+    match second {
+        Ok(TargetOutcome::Nothing) => first,
+        second => second,
+    }
+}
+
 /// Whether an alternative ends the look-up: a file is found, or it fails in another way than that it is no target.
 fn is_end(outcome: &Result<TargetOutcome, TargetError>) -> bool {
-    !matches!(
-        outcome,
-        Ok(TargetOutcome::Nothing | TargetOutcome::Null) | Err(TargetError::InvalidTarget { .. })
-    )
+    match outcome {
+        Ok(TargetOutcome::Found(_)) => true,
+        Ok(TargetOutcome::Nothing | TargetOutcome::Null) => false,
+        Err(TargetError::Fault { fault, .. }) => *fault != TargetFault::InvalidTarget,
+        Err(TargetError::Memory(_)) => true,
+    }
 }
 
 /// Whether a key is the decimal number of an index, as JavaScript has them: below 2^32 - 1, with no zero in front.

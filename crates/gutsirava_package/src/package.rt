@@ -2,7 +2,7 @@
 
 use crate::target::PackageTarget;
 use std::alloc::AllocError;
-use thiserror::Error;
+use std::fmt;
 
 /// What kind of module a package's `.js` files are, by its `type`.
 #[derive(Clone, Copy)]
@@ -24,7 +24,6 @@ pub enum Browser {
 }
 
 /// What a package.json says.
-#[derive(Drop)]
 pub struct Package {
     pub name: Option<String>,
     pub module_type: PackageType,
@@ -36,11 +35,35 @@ pub struct Package {
     pub imports: Option<PackageTarget>,
 }
 
+impl Drop for Package {
+    fn drop(self) {
+        let Package {
+            name: _name,
+            module_type: _module_type,
+            main: _main,
+            module: _module,
+            browser: _browser,
+            exports: _exports,
+            imports: _imports,
+        } = self;
+    }
+}
+
 /// Why a package.json is none.
-#[derive(Debug, Drop, Error)]
+#[derive(Clone, Copy)]
 pub enum PackageError {
-    #[error("it is no JSON, or nests deeper than 128 levels")]
+    /// It is no JSON, or nests deeper than 128 levels.
     Json,
-    #[error(transparent)]
-    Memory(#[from(alloc)] AllocError),
+    Memory(AllocError),
+}
+
+/// Writes what the file is.
+impl fmt::Display for PackageError {
+    fn fmt<W: fmt::Write>(&self, f: &mut fmt::Formatter<W>) -> fmt::Result {
+        let cause = match self {
+            PackageError::Json => "it is no JSON, or nests deeper than 128 levels",
+            PackageError::Memory(_) => "memory allocation failed",
+        };
+        write!(f, "{cause}")
+    }
 }

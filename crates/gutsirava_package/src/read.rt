@@ -1,37 +1,70 @@
 //! The reader of package.json. What it does not know, or what has another type than it wants, is passed over.
 
+ghost use Rattle.std.specs.Prelude.{◌≡◌, IfOk, codes, is_some, option_map, string_bytes};
+ghost use Rattle.json.specs.Value.{value_view};
+ghost use Rattle.gutsirava_package.specs.Fields as fields;
+
 use crate::package::{Browser, Package, PackageError, PackageType};
 use crate::target::PackageTarget;
 use json::{Error, Scratch, Value};
 use std::alloc::{AllocError, Global};
 use std::collections::BTreeMap;
 
+/// The byte order mark.
+const MARK: &str = "\u{feff}";
+
 impl Package {
+    ghost use Rattle.std.specs.Prelude.{◌≡◌, None, Some, Err, IfOk};
+    ghost use Rattle.json.specs.Json.{Json, document};
+    ghost use Rattle.json.specs.Value.{value_view};
+    ghost use Rattle.gutsirava_package.specs.Fields as fields;
+    ghost use Rattle.gutsirava_package.specs.Read.{IsPackage};
+
     /// Reads a package.json. Of a key that comes twice the last value counts; a value other than an object says nothing.
-    pub fn parse(alloc: Global, text: &str) -> Result<Package, PackageError> {
-        let text = text.strip_prefix('\u{feff}').unwrap_or(text);
+    pub fn parse(alloc: Global, text: &str) -> Result<Package, PackageError>
+        ensures refused { result ≡ Err PackageError.Json
+            → document (fields.unmarked text.now) ≡ None }
+        ensures read { IfOk result (λ it. (json : Json)
+            × (document (fields.unmarked text.now) ≡ Some json) × IsPackage it json) }
+    {
+        let text = unmarked(text);
         let mut scratch = Scratch::new(alloc);
         match Value::parse(alloc, text, &mut scratch) {
-            Ok(value) => Ok(Package::read(alloc, &value)?),
-            Err(Error::OutOfMemory) => Err(PackageError::Memory(AllocError)),
-            Err(_) => Err(PackageError::Json),
+            Ok(value) => match Package::read(alloc, &value) {
+                Ok(package) => Ok(package),
+                Err(refused) => Err(PackageError::Memory(refused)),
+            },
+            Err(Error::Invalid) => Err(PackageError::Json),
+            Err(_) => Err(PackageError::Memory(AllocError)),
         }
     }
 
     /// What a value says of a package.
-    fn read(alloc: Global, value: &Value<'_>) -> Result<Package, AllocError> {
+    fn read(alloc: Global, value: &Value<'_>) -> Result<Package, AllocError>
+        ensures { IfOk result (λ it. IsPackage it (value_view value.now)) }
+    {
         let texts = TextFields::read(alloc, value)?;
         let maps = Maps::read(alloc, value)?;
         let browser = browser_of(alloc, value.get("browser"))?;
         Ok(Package {
             name: texts.name,
-            module_type: type_of(value.get("type")),
+            module_type: type_of(value),
             main: texts.main,
-            module: texts.module,
+            module: texts.of_bundlers,
             browser,
             exports: maps.exports,
             imports: maps.imports,
         })
+    }
+}
+
+/// What stands behind a byte order mark, or all.
+fn unmarked(text: &str) -> &str
+    ensures { result.now ≡ fields.unmarked text.now }
+{
+    match text.strip_prefix(MARK) {
+        Some(inner) => inner,
+        None => text,
     }
 }
 
@@ -40,15 +73,31 @@ impl Package {
 struct TextFields {
     name: Option<String>,
     main: Option<String>,
-    module: Option<String>,
+    /// The field `module`.
+    of_bundlers: Option<String>,
 }
 
 impl TextFields {
-    fn read(alloc: Global, value: &Value<'_>) -> Result<TextFields, AllocError> {
-        let name = text_of(alloc, value.get("name"))?;
-        let main = text_of(alloc, value.get("main"))?;
-        let module = text_of(alloc, value.get("module"))?;
-        Ok(TextFields { name, main, module })
+    ghost use Rattle.std.specs.Prelude.{◌≡◌, IfOk, codes, option_map, string_bytes};
+    ghost use Rattle.json.specs.Value.{value_view};
+    ghost use Rattle.gutsirava_package.specs.Fields as fields;
+
+    fn read(alloc: Global, value: &Value<'_>) -> Result<TextFields, AllocError>
+        ensures name { IfOk result (λ it. option_map string_bytes it.name
+            ≡ fields.text_at (codes "name") (value_view value.now)) }
+        ensures main { IfOk result (λ it. option_map string_bytes it.main
+            ≡ fields.text_at (codes "main") (value_view value.now)) }
+        ensures of_bundlers { IfOk result (λ it. option_map string_bytes it.of_bundlers
+            ≡ fields.text_at (codes "module") (value_view value.now)) }
+    {
+        let name = text_of(alloc, value, "name")?;
+        let main = text_of(alloc, value, "main")?;
+        let of_bundlers = text_of(alloc, value, "module")?;
+        Ok(TextFields {
+            name,
+            main,
+            of_bundlers,
+        })
     }
 }
 
@@ -60,26 +109,61 @@ struct Maps {
 }
 
 impl Maps {
-    fn read(alloc: Global, value: &Value<'_>) -> Result<Maps, AllocError> {
-        let exports = map_of(alloc, value.get("exports"))?;
-        let imports = map_of(alloc, value.get("imports"))?;
+    ghost use Rattle.std.specs.Prelude.{◌≡◌, IfOk, codes, is_some};
+    ghost use Rattle.json.specs.Value.{value_view};
+    ghost use Rattle.gutsirava_package.specs.Fields as fields;
+
+    fn read(alloc: Global, value: &Value<'_>) -> Result<Maps, AllocError>
+        ensures exports { IfOk result (λ it. is_some it.exports
+            ≡ fields.says (codes "exports") (value_view value.now)) }
+        ensures imports { IfOk result (λ it. is_some it.imports
+            ≡ fields.says (codes "imports") (value_view value.now)) }
+    {
+        let exports = map_of(alloc, value, "exports")?;
+        let imports = map_of(alloc, value, "imports")?;
         Ok(Maps { exports, imports })
     }
 }
 
-/// The text of a text.
-fn text_of(alloc: Global, value: Option<&Value<'_>>) -> Result<Option<String>, AllocError> {
-    match value {
-        Some(Value::String(text)) => Ok(Some(String::from_str(alloc, text)?)),
-        _ => Ok(None),
+/// The text of a field that is one.
+fn text_of(alloc: Global, value: &Value<'_>, key: &str) -> Result<Option<String>, AllocError>
+    ensures { IfOk result (λ text. option_map string_bytes text
+        ≡ fields.text_at key.now (value_view value.now)) }
+{
+    match text_at(value, key) {
+        Some(text) => Ok(Some(String::from_str(alloc, text)?)),
+        None => Ok(None),
     }
 }
 
-fn type_of(value: Option<&Value<'_>>) -> PackageType {
-    match value {
-        Some(Value::String("module")) => PackageType::EcmaScript,
-        Some(Value::String("commonjs")) => PackageType::CommonJs,
-        _ => PackageType::Undeclared,
+fn text_at<'a>(value: &Value<'a>, key: &str) -> Option<&'a str>
+    ensures { option_map (λ text. text.now) result
+        ≡ fields.text_at key.now (value_view value.now) }
+{
+    match value.get(key) {
+        Some(field) => field.as_str(),
+        None => None,
+    }
+}
+
+fn type_of(value: &Value<'_>) -> PackageType
+    ensures { result ≡ fields.type_in (fields.text_at (codes "type") (value_view value.now)) }
+{
+    match text_at(value, "type") {
+        Some(text) => type_named(text),
+        None => PackageType::Undeclared,
+    }
+}
+
+fn type_named(text: &str) -> PackageType
+    ensures { result ≡ fields.type_named text.now }
+{
+    if text == "module" {
+        PackageType::EcmaScript
+    } else if text == "commonjs" {
+        PackageType::CommonJs
+    } else {
+        PackageType::Undeclared
     }
 }
 
@@ -109,10 +193,17 @@ fn replacements_of(
 }
 
 /// What `exports` or `imports` says; `null` says nothing.
-fn map_of(alloc: Global, value: Option<&Value<'_>>) -> Result<Option<PackageTarget>, AllocError> {
-    match value {
-        None | Some(Value::Null) => Ok(None),
-        Some(value) => Ok(Some(target_of(alloc, value)?)),
+fn map_of(alloc: Global, value: &Value<'_>, key: &str) -> Result<Option<PackageTarget>, AllocError>
+    ensures { IfOk result (λ target. is_some target ≡ fields.says key.now (value_view value.now)) }
+{
+    match value.get(key) {
+        None => Ok(None),
+        Some(field) => {
+            if field.is_null() {
+                return Ok(None);
+            }
+            Ok(Some(target_of(alloc, field)?))
+        }
     }
 }
 

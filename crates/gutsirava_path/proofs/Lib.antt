@@ -1,2 +1,3 @@
 pub mod NormalParts
 pub mod Ways
+pub mod LastLemmas

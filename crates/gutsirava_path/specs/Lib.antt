@@ -1,1 +1,3 @@
 pub mod Normal
+pub mod Places
+pub mod Specifiers

@@ -1,10 +1,10 @@
 //! The path of an address, as Node's loader of ECMAScript modules reads a specifier: `?` and `#` end it, and `%20` is
 //! a space.
 
-ghost use Rattle.std.specs.Prelude.{◌<◌, ◌≢◌, EachIndex, IfOk, IfSome, length, slice_index, string_bytes};
+ghost use Rattle.std.specs.Prelude.{◌<◌, ◌≤◌, ◌≢◌, EachIndex, IfOk, IfSome, length, slice_index, string_bytes};
 
-use std::alloc::{AllocError, Global};
-use thiserror::Error;
+use std::alloc::{AllocError, AllocFailed, Global};
+use std::fmt;
 
 /// The path that an address names, and what stands behind it.
 #[derive(Drop)]
@@ -16,16 +16,41 @@ pub struct Address {
 }
 
 /// Why an address names no path.
-#[derive(Debug, Drop, Error)]
+#[derive(Clone, Copy)]
 pub enum AddressError {
-    #[error("an escape stands for `/` or `\\`")]
+    /// An escape stands for `/` or `\`.
     Separator,
-    #[error("a `%` that begins no escape, or escapes that are no UTF-8")]
+    /// A `%` that begins no escape, or escapes that are no UTF-8.
     Malformed,
-    #[error("a NUL")]
     Nul,
-    #[error(transparent)]
-    Memory(#[from(alloc)] AllocError),
+    Memory(AllocError),
+}
+
+/// Writes what the address has.
+impl fmt::Display for AddressError {
+    fn fmt<W: fmt::Write>(&self, f: &mut fmt::Formatter<W>) -> fmt::Result {
+        let cause = match self {
+            AddressError::Separator => "an escape stands for `/` or `\\`",
+            AddressError::Malformed => {
+                "a `%` that begins no escape, or escapes that are no UTF-8"
+            }
+            AddressError::Nul => "a NUL",
+            AddressError::Memory(_) => "memory allocation failed",
+        };
+        write!(f, "{cause}")
+    }
+}
+
+impl From<AllocError> for AddressError {
+    fn from(refused: AllocError) -> AddressError {
+        AddressError::Memory(refused)
+    }
+}
+
+impl<T: Drop> From<AllocFailed<T>> for AddressError {
+    fn from(refused: AllocFailed<T>) -> AddressError {
+        AddressError::Memory(AllocError::from(refused))
+    }
 }
 
 /// Reads the path of an address. White space at its ends, tabs and line ends count for nothing, and `\` is `/`.
@@ -38,15 +63,26 @@ pub fn decode(alloc: Global, text: &str) -> Result<Address, AddressError>
         .find(|c: char| c == '?' || c == '#')
         .unwrap_or(text.len());
     let (raw, suffix) = text.split_at_checked(at).unwrap_or((text, ""));
-    let bytes = read_escapes(alloc, raw.as_bytes())?;
-    let path = String::from_utf8(bytes).map_err(|_| AddressError::Malformed)?;
+    let path = read_path(alloc, raw)?;
+    match read_suffix(alloc, suffix) {
+        Ok(suffix) => Ok(Address { path, suffix }),
+        Err(refused) => Err(AddressError::Memory(refused)),
+    }
+}
+
+/// The path that a text with escapes stands for.
+fn read_path(alloc: Global, text: &str) -> Result<String, AddressError>
+    ensures { IfOk result (λ path. EachIndex (string_bytes path)
+        (λ k. slice_index (string_bytes path) k ≢ 0)) }
+{
+    let bytes = read_escapes(alloc, text.as_bytes())?;
+    let Ok(path) = String::from_utf8(bytes) else {
+        return Err(AddressError::Malformed);
+    };
     if path.contains('\0') {
         return Err(AddressError::Nul);
     }
-    Ok(Address {
-        path,
-        suffix: read_suffix(alloc, suffix)?,
-    })
+    Ok(path)
 }
 
 /// What stands behind a path, but for a `?` or `#` with nothing behind it.
@@ -68,24 +104,29 @@ fn read_escapes(alloc: Global, text: &[u8]) -> Result<Vec<u8>, AddressError> {
     let mut bytes = Vec::new(alloc);
     let mut rest = text;
     while let Some((first, others)) = rest.split_first() {
-        rest = others;
-        match *first {
-            b'\t' | b'\n' | b'\r' => {}
-            b'\\' => bytes.push(b'/')?,
-            b'%' => {
-                let Some((byte, others)) = read_escape(others) else {
-                    return Err(AddressError::Malformed);
-                };
-                if byte == b'/' || byte == b'\\' {
-                    return Err(AddressError::Separator);
-                }
-                bytes.push(byte)?;
-                rest = others;
-            }
-            byte => bytes.push(byte)?,
+        let (byte, others) = read_byte(*first, others)?;
+        if let Some(byte) = byte {
+            bytes.push(byte)?;
         }
+        rest = others;
     }
     Ok(bytes)
+}
+
+/// The byte that a first one stands for with what stands behind it, and what is left: tabs and line ends stand for none.
+fn read_byte(first: u8, rest: &[u8]) -> Result<(Option<u8>, &[u8]), AddressError>
+    ensures { IfOk result (λ read. length read.1.now ≤ length rest.now) }
+{
+    match first {
+        b'\t' | b'\n' | b'\r' => Ok((None, rest)),
+        b'\\' => Ok((Some(b'/'), rest)),
+        b'%' => match read_escape(rest) {
+            None => Err(AddressError::Malformed),
+            Some((b'/' | b'\\', _)) => Err(AddressError::Separator),
+            Some((byte, others)) => Ok((Some(byte), others)),
+        },
+        byte => Ok((Some(byte), rest)),
+    }
 }
 
 /// The byte of the two hexadecimal digits in front, and what stands behind them.

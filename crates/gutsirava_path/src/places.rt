@@ -1,13 +1,15 @@
 //! Where a path lies, and the name of its file.
-ghost use Rattle.std.specs.Prelude.{◌<◌, length, IfSome};
+ghost use Rattle.std.specs.Prelude.{◌≡◌, ◌<◌, length, IfSome};
+ghost use Rattle.gutsirava_path.specs.Places as place;
 
 /// The folder of a normal path: what stands before its last `/`. `/` of what lies in it, the empty text of a path of
 /// one part.
-pub fn folder_of(path: &str) -> &str {
+pub fn folder_of(path: &str) -> &str
+    ensures { result.now ≡ place.folder_of path.now }
+{
     match path.rsplit_once('/') {
         None => "",
-        Some(("", _)) => "/",
-        Some((folder, _)) => folder,
+        Some((folder, _)) => if folder.is_empty() { "/" } else { folder },
     }
 }
 
@@ -26,20 +28,40 @@ pub fn parent(folder: &str) -> Option<&str>
 }
 
 /// What stands behind the last `/`.
-pub fn file_name(path: &str) -> &str {
-    path.rsplit_once('/').map_or(path, |(_, name)| name)
+pub fn file_name(path: &str) -> &str
+    ensures { result.now ≡ place.file_name path.now }
+{
+    match path.rsplit_once('/') {
+        None => path,
+        Some((_, name)) => name,
+    }
 }
 
 /// The ending of a file's name from its last `.` on, with it; empty where the name has none, or none but in front.
-pub fn extension(path: &str) -> &str {
-    let name = file_name(path);
+pub fn extension(path: &str) -> &str
+    ensures { result.now ≡ place.ending_of (place.file_name path.now) }
+{
+    ending_of(file_name(path))
+}
+
+/// The ending of a name.
+fn ending_of(name: &str) -> &str
+    ensures { result.now ≡ place.ending_of name.now }
+{
     match name.rfind('.') {
-        Some(at) if at > 0 && name != ".." => name.get(at..).unwrap_or(""),
-        _ => "",
+        Some(at) => if at > 0 && name != ".." {
+            name.split_at(at).1
+        } else {
+            ""
+        },
+        None => "",
     }
 }
 
 /// Whether a path means a folder by its form: it ends with `/`, or its last part is `.` or `..`.
-pub fn is_folder_form(path: &str) -> bool {
-    matches!(file_name(path), "" | "." | "..")
+pub fn is_folder_form(path: &str) -> bool
+    ensures { result ≡ place.is_folder_name (place.file_name path.now) }
+{
+    let name = file_name(path);
+    name.is_empty() || name == "." || name == ".."
 }

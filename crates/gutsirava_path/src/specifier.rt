@@ -1,5 +1,10 @@
 //! What a specifier asks for: a path, a package, one of Node's own modules, or an address elsewhere.
-ghost use Rattle.std.specs.Prelude.{◌≡◌, ◌≢◌, [], ◌++◌, IfSome};
+ghost use Rattle.std.specs.Prelude.{◌≡◌, ◌≢◌, [], ◌++◌, IfSome, map, nat_eq, take};
+ghost use Rattle.std.specs.Char.{to_ascii_lowercase};
+ghost use Rattle.std.specs.List.{after_first, before_first, list_all, starts_with};
+ghost use Rattle.std.specs.Str.{bytes_eq};
+ghost use Rattle.gutsirava_path.specs.Places.{is_slash};
+ghost use Rattle.gutsirava_path.specs.Specifiers as sp;
 
 /// Which of Node's two loaders a request is for: that of `import`, or that of `require`.
 #[derive(Clone, Copy, PartialEq, Eq)]
@@ -34,54 +39,122 @@ pub enum Specifier<'a> {
 }
 
 impl<'a> Specifier<'a> {
+    ghost use Rattle.std.specs.Prelude.{◌≡◌};
+    ghost use Rattle.gutsirava_path.specs.Specifiers.{meaning_in, meaning_of};
+
     /// What the text asks for. `require` knows no addresses but `node:`.
-    pub fn of(text: &'a str, loader: Loader) -> Specifier<'a> {
+    pub fn of(text: &'a str, loader: Loader) -> Specifier<'a>
+        ensures { meaning_in result ≡ meaning_of loader text.now }
+    {
         if text.is_empty() {
             Specifier::Empty
-        } else if loader == Loader::EcmaScript && text.starts_with("//") {
+        } else if is_module(loader) && begins_with(text, "//") {
             Specifier::Remote(text)
-        } else if text.starts_with('/') {
+        } else if begins_with(text, "/") {
             Specifier::Absolute(text)
         } else if is_relative(text) {
             Specifier::Relative(text)
-        } else if text.starts_with('#') {
+        } else if begins_with(text, "#") {
             Specifier::Internal(text)
-        } else if let Some(name) = text.strip_prefix("node:") {
-            node_module(name)
-        } else if is_builtin(text) {
-            Specifier::Builtin(text)
-        } else if loader == Loader::EcmaScript && has_scheme(text) {
-            address(text)
         } else {
-            Specifier::Bare(text)
+            named(text, loader)
         }
     }
 }
 
+/// Whether a loader is that of `import`.
+fn is_module(loader: Loader) -> bool
+    ensures { result ≡ sp.is_module loader }
+{
+    match loader {
+        Loader::EcmaScript => true,
+        Loader::CommonJs => false,
+    }
+}
+
+/// Whether a text begins with another.
+fn begins_with(text: &str, front: &str) -> bool
+    ensures { result ≡ starts_with nat_eq text.now front.now }
+{
+    text.starts_with(front)
+}
+
 /// `.`, `..`, or what begins with `./` or `../`.
-fn is_relative(text: &str) -> bool {
-    let first = match text.split_once('/') {
+fn is_relative(text: &str) -> bool
+    ensures { result ≡ sp.is_relative text.now }
+{
+    let first = first_part(text);
+    first == "." || first == ".."
+}
+
+/// What stands before the first `/`, or all.
+fn first_part(text: &str) -> &str
+    ensures { result.now ≡ before_first is_slash text.now }
+{
+    match text.split_once('/') {
         Some((first, _)) => first,
         None => text,
-    };
-    matches!(first, "." | "..")
+    }
+}
+
+/// What the name of a module, or an address, asks for.
+fn named(text: &str, loader: Loader) -> Specifier<'_>
+    ensures { sp.meaning_in result ≡ sp.named_meaning loader text.now }
+{
+    if let Some(name) = text.strip_prefix("node:") {
+        node_module(name)
+    } else if is_builtin(text) {
+        Specifier::Builtin(text)
+    } else if is_module(loader) && has_scheme(text) {
+        address(text)
+    } else {
+        Specifier::Bare(text)
+    }
 }
 
 /// Whether an address begins the text: a letter, then letters, digits, `+`, `-` and `.`, then `:`.
-fn has_scheme(text: &str) -> bool {
-    let Some((scheme, _)) = text.split_once(':') else {
-        return false;
-    };
-    let is_plain = |b: u8| b.is_ascii_alphanumeric() || b == b'+' || b == b'-' || b == b'.';
-    scheme
-        .as_bytes()
-        .first()
-        .is_some_and(u8::is_ascii_alphabetic)
-        && scheme.bytes().all(is_plain)
+fn has_scheme(text: &str) -> bool
+    ensures { result ≡ sp.has_scheme text.now }
+{
+    match text.split_once(':') {
+        Some((scheme, _)) => is_scheme(scheme.as_bytes()),
+        None => false,
+    }
+}
+
+/// Whether these bytes are a letter, then letters, digits, `+`, `-` and `.`.
+fn is_scheme(bytes: &[u8]) -> bool
+    ensures { result ≡ sp.is_scheme bytes.now }
+{
+    match bytes {
+        [first, rest @ ..] => is_letter(*first) && are_plain(rest),
+        [] => false,
+    }
+}
+
+/// Whether these bytes are letters, digits, `+`, `-` and `.`.
+fn are_plain(bytes: &[u8]) -> bool
+    ensures { result ≡ list_all sp.is_scheme_byte bytes.now }
+{
+    bytes.iter().all(|byte| is_scheme_byte(*byte))
+}
+
+fn is_letter(byte: u8) -> bool
+    ensures { result ≡ sp.is_letter byte }
+{
+    matches!(byte, b'a'..=b'z') || matches!(byte, b'A'..=b'Z')
+}
+
+fn is_scheme_byte(byte: u8) -> bool
+    ensures { result ≡ sp.is_scheme_byte byte }
+{
+    is_letter(byte) || matches!(byte, b'0'..=b'9') || byte == b'+' || byte == b'-' || byte == b'.'
 }
 
 /// What stands behind `node:`.
-fn node_module(name: &str) -> Specifier<'_> {
+fn node_module(name: &str) -> Specifier<'_>
+    ensures { sp.meaning_in result ≡ sp.node_meaning name.now }
+{
     if is_builtin(name) || is_prefixed_builtin(name) {
         Specifier::Builtin(name)
     } else {
@@ -90,24 +163,67 @@ fn node_module(name: &str) -> Specifier<'_> {
 }
 
 /// What an address names.
-fn address(text: &str) -> Specifier<'_> {
-    let Some((scheme, rest)) = text.split_once(':') else {
-        return Specifier::Url(text);
-    };
-    if scheme.eq_ignore_ascii_case("node") {
-        return node_module(rest);
+fn address(text: &str) -> Specifier<'_>
+    ensures { sp.meaning_in result ≡ sp.address_meaning text.now }
+{
+    let (scheme, rest) = split_scheme(text);
+    if is_word(scheme, "node") {
+        node_module(rest)
+    } else if is_word(scheme, "file") {
+        file_address(text, rest)
+    } else {
+        Specifier::Url(text)
     }
-    if !scheme.eq_ignore_ascii_case("file") {
-        return Specifier::Url(text);
+}
+
+/// What stands before the first `:`, and behind it.
+fn split_scheme(text: &str) -> (&str, &str)
+    ensures scheme { result.0.now ≡ before_first sp.is_colon text.now }
+    ensures rest { result.1.now ≡ after_first sp.is_colon text.now }
+{
+    match text.split_once(':') {
+        Some(parts) => parts,
+        None => (text, ""),
     }
-    let path = match rest.strip_prefix("//") {
-        None => rest,
-        Some(rest) => rest.strip_prefix("localhost").unwrap_or(rest),
-    };
-    if path.starts_with('/') {
+}
+
+/// Whether a text is a word, but for the case of letters of ASCII.
+fn is_word(text: &str, word: &str) -> bool
+    ensures { result ≡ bytes_eq (map to_ascii_lowercase text.now)
+        (map to_ascii_lowercase word.now) }
+{
+    text.eq_ignore_ascii_case(word)
+}
+
+/// What the address of a file names, by what stands behind its scheme.
+fn file_address<'a>(text: &'a str, rest: &'a str) -> Specifier<'a>
+    ensures { sp.meaning_in result ≡ sp.file_meaning text.now rest.now }
+{
+    let path = file_path(rest);
+    if begins_with(path, "/") {
         Specifier::File(path)
     } else {
         Specifier::Remote(text)
+    }
+}
+
+/// What stands behind `//` and this machine's name.
+fn file_path(rest: &str) -> &str
+    ensures { result.now ≡ sp.file_path rest.now }
+{
+    match rest.strip_prefix("//") {
+        Some(inner) => unhosted(inner),
+        None => rest,
+    }
+}
+
+/// What stands behind this machine's name.
+fn unhosted(rest: &str) -> &str
+    ensures { result.now ≡ sp.unhosted rest.now }
+{
+    match rest.strip_prefix("localhost") {
+        Some(path) => path,
+        None => rest,
     }
 }
 
@@ -116,6 +232,7 @@ fn address(text: &str) -> Specifier<'_> {
 pub fn split_package(text: &str) -> Option<(&str, &str)>
     ensures whole { IfSome result (λ p. p.0.now ++ p.1.now ≡ text.now) }
     ensures named { IfSome result (λ p. p.0.now ≢ []) }
+    ensures name { IfSome result (λ p. p.0.now ≡ sp.package_name text.now) }
 {
     let (name, rest) = split_name(text)?;
     if name.is_empty() || name.starts_with('.') || name.contains('%') || name.contains('\\') {
@@ -126,42 +243,45 @@ pub fn split_package(text: &str) -> Option<(&str, &str)>
 
 /// The name up to the first `/`, or with a scope to the second, and the rest from there on.
 fn split_name(text: &str) -> Option<(&str, &str)>
-    ensures { IfSome result (λ p. p.0.now ++ p.1.now ≡ text.now) }
+    ensures whole { IfSome result (λ p. p.0.now ++ p.1.now ≡ text.now) }
+    ensures name { IfSome result (λ p. p.0.now ≡ sp.package_name text.now) }
 {
-    let Some(slash) = text.find('/') else {
-        return if text.starts_with('@') {
-            None
-        } else {
-            Some((text, ""))
-        };
-    };
-    if !text.starts_with('@') {
-        return cut(text, slash);
+    if !begins_with(text, "@") {
+        return cut(text, first_part(text).len());
     }
-    let (_, behind) = text.split_once('/')?;
-    let unscoped = behind.find('/').unwrap_or(behind.len());
-    let at = slash.checked_add(1)?.checked_add(unscoped)?;
+    let (scope, behind) = text.split_once('/')?;
+    let unscoped = first_part(behind).len();
+    let at = scope.len().checked_add(1)?.checked_add(unscoped)?;
     cut(text, at)
 }
 
 /// The two parts of a text round a place.
 fn cut(text: &str, at: usize) -> Option<(&str, &str)>
-    ensures { IfSome result (λ p. p.0.now ++ p.1.now ≡ text.now) }
+    ensures whole { IfSome result (λ p. p.0.now ++ p.1.now ≡ text.now) }
+    ensures front { IfSome result (λ p. p.0.now ≡ take at text.now) }
 {
     text.split_at_checked(at)
 }
 
 /// Whether Node has a module of its own by that name, with `node:` in front or not.
-pub fn is_builtin(name: &str) -> bool {
-    BUILTINS.iter().any(|builtin| *builtin == name)
+#[tactic(auto, unfolding(crate::specs::Specifiers::is_builtin))]
+pub fn is_builtin(name: &str) -> bool
+    ensures { result ≡ sp.is_builtin name.now }
+{
+    BUILTINS.contains(&name)
 }
 
 /// Whether Node has a module of its own by that name with `node:` in front, and only so.
-fn is_prefixed_builtin(name: &str) -> bool {
-    matches!(name, "sea" | "sqlite" | "test" | "test/reporters")
+#[tactic(auto, unfolding(crate::specs::Specifiers::is_prefixed_builtin))]
+fn is_prefixed_builtin(name: &str) -> bool
+    ensures { result ≡ sp.is_prefixed_builtin name.now }
+{
+    PREFIXED_BUILTINS.contains(&name)
 }
 
-static BUILTINS: [&str; 68] = [
+const PREFIXED_BUILTINS: [&str; 4] = ["sea", "sqlite", "test", "test/reporters"];
+
+const BUILTINS: [&str; 68] = [
     "_http_agent",
     "_http_client",
     "_http_common",

@@ -1,4 +1,5 @@
 pub mod ExcerptLemmas
 pub mod LineLemmas
 pub mod QuietLemmas
+pub mod ResultLemmas
 pub mod SheetLemmas

@@ -26,3 +26,7 @@ pub record AddsExcerpt (old new : Sheet) (style : Style) : Type 0 where
   pub aligned : chars_of bar ≡ margin_under margin
   pub under : chars_of marks ≡ replicate (columns_of before) 32
       ++ replicate (max 1 (columns_of marked)) 94
+
+-- what a sheet gained last is such a line
+abbrev pub EndsInExcerpt : Sheet → Style → Type 0
+EndsInExcerpt sheet style = (before : Sheet) × AddsExcerpt before sheet style

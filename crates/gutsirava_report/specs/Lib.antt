@@ -1,7 +1,10 @@
 pub mod Quiet
 pub mod Shown
 pub mod Style
+pub mod Severity
 pub mod Sheet
+pub mod Text
 pub mod Lines
 pub mod Excerpt
 pub mod Units
+pub mod Amounts

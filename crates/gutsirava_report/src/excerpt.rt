@@ -1,15 +1,16 @@
 //! A line of a file with a mark under a stretch of it.
 
-ghost use Rattle.std.specs.Prelude.{◌≡◌, ◌++◌, max, replicate, OnOk, IfOk};
-ghost use Rattle.gutsirava_report.specs.Shown.{chars_of, columns_of};
-ghost use Rattle.gutsirava_report.specs.Excerpt.{AddsExcerpt, margin_under};
+ghost use Rattle.std.specs.Prelude.{◌≡◌, ◌-◌, ◌++◌, ◌∷◌, [], max, replicate, OnOk, IfOk, IfSome};
+ghost use Rattle.gutsirava_report.specs.Shown.{chars_of};
+ghost use Rattle.gutsirava_report.specs.Excerpt.{AddsExcerpt, EndsInExcerpt};
 
 use crate::{FilePlace, Sheet, Shown, Stretch, Style};
 use std::alloc::{AllocError, Global};
 
 /// Appends where something is: the file with line and column, and the line with a mark of this style.
-pub fn push_place(sheet: &mut Sheet, place: &FilePlace, style: Style) -> Result<(), AllocError> {
-    let alloc = sheet.allocator();
+pub fn push_place(sheet: &mut Sheet, place: &FilePlace, style: Style) -> Result<(), AllocError>
+    ensures { IfSome place.now.stretch (λ _. OnOk result (EndsInExcerpt sheet.new style)) }
+{
     match &place.stretch {
         None => {
             sheet.push(Style::Margin, " --> ")?;
@@ -17,22 +18,37 @@ pub fn push_place(sheet: &mut Sheet, place: &FilePlace, style: Style) -> Result<
             sheet.end_line()
         }
         Some(stretch) => {
-            let margin = margin_of(alloc, stretch)?;
-            let mut arrow = Shown::new(alloc);
-            arrow.pad(' ', margin.columns().saturating_sub(3))?;
-            arrow.push_str("--> ")?;
-            sheet.push_shown(Style::Margin, arrow)?;
-            sheet.push(Style::Plain, place.path.as_str())?;
-            let (line, column) = (stretch.line, stretch.column);
-            let at = format!(in alloc; ":{line}:{column}")?;
-            sheet.push(Style::Plain, at.as_str())?;
-            sheet.end_line()?;
-            let bar = bar_under(alloc, &margin)?;
-            sheet.push_shown(Style::Margin, bar)?;
-            sheet.end_line()?;
+            let margin = margin_of(sheet.allocator(), stretch)?;
+            push_arrow(sheet, &margin)?;
+            push_name(sheet, place.path.as_str(), stretch)?;
+            push_bar(sheet, &margin)?;
             push_stretch(sheet, margin, stretch, style)
         }
     }
+}
+
+// Appends an arrow that ends in the last column of a margin.
+fn push_arrow(sheet: &mut Sheet, margin: &Shown) -> Result<(), AllocError> {
+    let mut arrow = Shown::new(sheet.allocator());
+    arrow.pad(' ', margin.columns().saturating_sub(3))?;
+    arrow.push_str("--> ")?;
+    sheet.push_shown(Style::Margin, arrow)
+}
+
+// Appends the file with line and column.
+fn push_name(sheet: &mut Sheet, path: &str, stretch: &Stretch) -> Result<(), AllocError> {
+    sheet.push(Style::Plain, path)?;
+    let (line, column) = (stretch.line, stretch.column);
+    let at = format!(in sheet.allocator(); ":{line}:{column}")?;
+    sheet.push(Style::Plain, at.as_str())?;
+    sheet.end_line()
+}
+
+// Appends a line without number or text.
+fn push_bar(sheet: &mut Sheet, margin: &Shown) -> Result<(), AllocError> {
+    let bar = bar_in(sheet.allocator(), margin.columns())?;
+    sheet.push_shown(Style::Margin, bar)?;
+    sheet.end_line()
 }
 
 // Appends the line and, under it, the line of marks.
@@ -45,18 +61,20 @@ fn push_stretch(
     ensures { OnOk result (AddsExcerpt sheet.old sheet.new style) }
 {
     let alloc = sheet.allocator();
-    let before = text_before(alloc, stretch)?;
-    let mut marked = Shown::new(alloc);
-    marked.push_str(stretch.marked.as_str())?;
-    let after = text_after(alloc, stretch)?;
-    let bar = bar_under(alloc, &margin)?;
-    let marks = marks_under(alloc, &before, &marked)?;
+    let room = margin.columns();
     sheet.push_shown(Style::Margin, margin)?;
+    let before = text_before(alloc, stretch)?;
+    let indent = before.columns();
     sheet.push_shown(Style::Plain, before)?;
+    let marked = text_marked(alloc, stretch)?;
+    let width = marked.columns();
     sheet.push_shown(Style::Plain, marked)?;
+    let after = text_after(alloc, stretch)?;
     sheet.push_shown(Style::Plain, after)?;
     sheet.end_line()?;
+    let bar = bar_in(alloc, room)?;
     sheet.push_shown(Style::Margin, bar)?;
+    let marks = marks_under(alloc, indent, width)?;
     sheet.push_shown(style, marks)?;
     sheet.end_line()
 }
@@ -70,26 +88,33 @@ fn margin_of(alloc: Global, stretch: &Stretch) -> Result<Shown, AllocError> {
     Ok(margin)
 }
 
-// What stands left of a line without number, as wide as the margin above it.
-fn bar_under(alloc: Global, margin: &Shown) -> Result<Shown, AllocError>
-    ensures { IfOk result (λ bar. chars_of bar ≡ margin_under margin.now) }
+// What stands left of a line without number, below a margin of so many columns.
+fn bar_in(alloc: Global, room: usize) -> Result<Shown, AllocError>
+    ensures { IfOk result (λ bar. chars_of bar ≡ replicate (room - 2) 32 ++ (124 ∷ 32 ∷ [])) }
 {
     let mut bar = Shown::new(alloc);
-    bar.pad(' ', margin.columns().saturating_sub(2))?;
+    bar.pad(' ', room.saturating_sub(2))?;
     bar.push('|')?;
     bar.push(' ')?;
     Ok(bar)
 }
 
-// The marks under a stretch that has this text before it on its line: from its first column to its last, one at least.
-fn marks_under(alloc: Global, before: &Shown, marked: &Shown) -> Result<Shown, AllocError>
+// The marks under a stretch of so many columns that has so many before it on its line: from its first column to its last,
+// one at least.
+fn marks_under(alloc: Global, indent: usize, width: usize) -> Result<Shown, AllocError>
     ensures { IfOk result (λ marks. chars_of marks
-        ≡ replicate (columns_of before.now) 32 ++ replicate (max 1 (columns_of marked.now)) 94) }
+        ≡ replicate indent 32 ++ replicate (max 1 width) 94) }
 {
     let mut marks = Shown::new(alloc);
-    marks.pad(' ', before.columns())?;
-    marks.pad('^', marked.columns().max(1))?;
+    marks.pad(' ', indent)?;
+    marks.pad('^', width.max(1))?;
     Ok(marks)
+}
+
+fn text_marked(alloc: Global, stretch: &Stretch) -> Result<Shown, AllocError> {
+    let mut marked = Shown::new(alloc);
+    marked.push_str(stretch.marked.as_str())?;
+    Ok(marked)
 }
 
 fn text_before(alloc: Global, stretch: &Stretch) -> Result<Shown, AllocError> {

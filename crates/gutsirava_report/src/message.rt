@@ -14,7 +14,6 @@ pub enum Severity {
 }
 
 /// An error or a warning.
-#[derive(Drop)]
 pub struct Message {
     pub severity: Severity,
     /// What is wrong, in a sentence without a full stop.
@@ -26,16 +25,40 @@ pub struct Message {
 }
 
 /// What belongs to a message.
-#[derive(Drop)]
 pub struct Note {
     pub text: String,
     /// Where.
     pub place: Option<FilePlace>,
 }
 
+impl Drop for Message {
+    fn drop(self) {
+        let Message {
+            severity: _severity,
+            text: _text,
+            place: _place,
+            notes: _notes,
+        } = self;
+    }
+}
+
+impl Drop for Note {
+    fn drop(self) {
+        let Note {
+            text: _text,
+            place: _place,
+        } = self;
+    }
+}
+
 impl Severity {
+    ghost use Rattle.std.specs.Prelude.{◌≡◌};
+    ghost use Rattle.gutsirava_report.specs.Severity.{style_of, word_of};
+
     /// Its word.
-    pub fn word(self) -> &'static str {
+    pub fn word(self) -> &'static str
+        ensures { result.now ≡ word_of self }
+    {
         match self {
             Severity::Error => "error",
             Severity::Warning => "warning",
@@ -43,7 +66,9 @@ impl Severity {
     }
 
     /// The colour of its word and of its mark.
-    pub fn style(self) -> Style {
+    pub fn style(self) -> Style
+        ensures { result ≡ style_of self }
+    {
         match self {
             Severity::Error => Style::Error,
             Severity::Warning => Style::Warning,

@@ -11,7 +11,6 @@ use unicode_width::UnicodeWidthChar;
 const MOST: usize = 72;
 
 /// A place in a file: a stretch of a line, or the file alone.
-#[derive(Drop)]
 pub struct FilePlace {
     /// What the file is called.
     pub path: String,
@@ -20,7 +19,6 @@ pub struct FilePlace {
 }
 
 /// A stretch of a line, and what of the line is shown around it.
-#[derive(Drop)]
 pub struct Stretch {
     /// The line, from 1 on. Lines end at a line feed, a carriage return, or the two together.
     pub line: usize,
@@ -36,6 +34,29 @@ pub struct Stretch {
     pub after: String,
     /// Whether more of the line stands behind that.
     pub has_more_after: bool,
+}
+
+impl Drop for FilePlace {
+    fn drop(self) {
+        let FilePlace {
+            path: _path,
+            stretch: _stretch,
+        } = self;
+    }
+}
+
+impl Drop for Stretch {
+    fn drop(self) {
+        let Stretch {
+            line: _line,
+            column: _column,
+            before: _before,
+            has_more_before: _has_more_before,
+            marked: _marked,
+            after: _after,
+            has_more_after: _has_more_after,
+        } = self;
+    }
 }
 
 impl FilePlace {

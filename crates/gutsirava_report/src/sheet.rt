@@ -48,6 +48,8 @@ pub struct Sheet {
 }
 
 impl Sheet {
+    ghost use Rattle.gutsirava_report.specs.Text.{AddsText};
+
     /// A report that says nothing.
     pub fn new(alloc: Global) -> Sheet
         ensures { result.pieces.items ≡ [] }
@@ -59,12 +61,16 @@ impl Sheet {
     }
 
     /// The allocator of the report.
-    pub fn allocator(&self) -> Global {
+    pub fn allocator(&self) -> Global
+        ensures { result ≡ self.now.alloc }
+    {
         self.alloc
     }
 
     /// Appends a text to the line, as it may be shown.
-    pub fn push(&mut self, style: Style, text: &str) -> Result<(), AllocError> {
+    pub fn push(&mut self, style: Style, text: &str) -> Result<(), AllocError>
+        ensures { OnOk result (AddsText self.old self.new style text.now) }
+    {
         let mut shown = Shown::new(self.alloc);
         shown.push_str(text)?;
         self.push_shown(style, shown)

@@ -40,36 +40,61 @@ pub fn summary_text(alloc: Global, summary: &Summary, colors: bool) -> Result<St
 }
 
 fn push_summary(sheet: &mut Sheet, summary: &Summary) -> Result<(), AllocError> {
-    let alloc = sheet.allocator();
-    let mut most: usize = 0;
-    for written in &summary.written {
-        let mut path = Shown::new(alloc);
-        path.push_str(written.path.as_str())?;
-        most = most.max(path.columns());
-    }
-    for written in &summary.written {
-        push_written(sheet, written, most)?;
-    }
-    let modules = counted(alloc, summary.modules, "module")?;
-    let files = counted(alloc, summary.written.len(), "file")?;
-    let time = time_text(alloc, summary.milliseconds)?;
-    let text = format!(in alloc; "{modules}, {files}, {time}")?;
+    push_files(sheet, summary.written.as_slice())?;
+    let text = total_text(sheet.allocator(), summary)?;
     sheet.push(Style::Strong, text.as_str())?;
     sheet.end_line()
 }
 
+// How many modules, how many files, and how long.
+fn total_text(alloc: Global, summary: &Summary) -> Result<String, AllocError> {
+    let modules = counted(alloc, summary.modules, "module")?;
+    let files = counted(alloc, summary.written.len(), "file")?;
+    let time = time_text(alloc, summary.milliseconds)?;
+    format!(in alloc; "{modules}, {files}, {time}")
+}
+
+// A line for each file.
+fn push_files(sheet: &mut Sheet, files: &[Written]) -> Result<(), AllocError> {
+    let most = widest(sheet.allocator(), files)?;
+    for written in files {
+        push_written(sheet, written, most)?;
+    }
+    Ok(())
+}
+
+// How many columns the widest path takes.
+fn widest(alloc: Global, files: &[Written]) -> Result<usize, AllocError> {
+    let mut most: usize = 0;
+    for written in files {
+        most = most.max(columns_of(alloc, written.path.as_str())?);
+    }
+    Ok(most)
+}
+
+fn columns_of(alloc: Global, path: &str) -> Result<usize, AllocError> {
+    let mut shown = Shown::new(alloc);
+    shown.push_str(path)?;
+    Ok(shown.columns())
+}
+
 // The line of a file: its path, in so many columns, and its size.
 fn push_written(sheet: &mut Sheet, written: &Written, columns: usize) -> Result<(), AllocError> {
-    let alloc = sheet.allocator();
-    let mut path = Shown::new(alloc);
-    path.push_str("  ")?;
-    path.push_str(written.path.as_str())?;
-    let wide = path.columns();
-    path.pad(' ', columns.saturating_add(4).saturating_sub(wide))?;
+    let path = padded_path(sheet.allocator(), written.path.as_str(), columns)?;
     sheet.push_shown(Style::Plain, path)?;
-    let size = Size::of(written.bytes).text(alloc)?;
+    let size = Size::of(written.bytes).text(sheet.allocator())?;
     sheet.push(Style::Note, size.as_str())?;
     sheet.end_line()
+}
+
+// A path with blanks before it, and behind it up to so many columns and two.
+fn padded_path(alloc: Global, path: &str, columns: usize) -> Result<Shown, AllocError> {
+    let mut shown = Shown::new(alloc);
+    shown.push_str("  ")?;
+    shown.push_str(path)?;
+    let wide = shown.columns();
+    shown.pad(' ', columns.saturating_add(4).saturating_sub(wide))?;
+    Ok(shown)
 }
 
 // A count and its word, as `2 files`.

@@ -1,6 +1,7 @@
 //! Amounts as people read them.
 
-ghost use Rattle.std.specs.Prelude.{◌≡◌, ◌+◌, ◌*◌, ◌/◌, ◌<◌, ◌≤◌};
+ghost use Rattle.std.specs.Prelude.{◌≡◌, ◌+◌, ◌*◌, ◌/◌, ◌<◌, ◌≤◌, IfOk, string_bytes};
+ghost use Rattle.gutsirava_report.specs.Amounts.{size_text, time_text};
 ghost use Rattle.gutsirava_report.specs.Units.{tenth_of};
 
 use std::alloc::{AllocError, Global};
@@ -22,17 +23,6 @@ pub struct Size {
     pub whole: u64,
     /// How many tenths of a unit more.
     pub tenths: u64,
-}
-
-impl Unit {
-    fn name(self) -> &'static str {
-        match self {
-            Unit::Byte => "B",
-            Unit::Kilobyte => "kB",
-            Unit::Megabyte => "MB",
-            Unit::Gigabyte => "GB",
-        }
-    }
 }
 
 impl Size {
@@ -73,22 +63,24 @@ impl Size {
     }
 
     /// As `36 B` and `1.5 kB`.
-    pub fn text(self, alloc: Global) -> Result<String, AllocError> {
-        let Size {
-            unit,
-            whole,
-            tenths,
-        } = self;
-        let name = unit.name();
-        match unit {
-            Unit::Byte => format!(in alloc; "{whole} {name}"),
-            _ => format!(in alloc; "{whole}.{tenths} {name}"),
+    pub fn text(self, alloc: Global) -> Result<String, AllocError>
+        ensures { IfOk result (λ text. string_bytes text ≡ size_text self) }
+    {
+        let whole = self.whole;
+        let tenths = self.tenths;
+        match self.unit {
+            Unit::Byte => format!(in alloc; "{whole} B"),
+            Unit::Kilobyte => format!(in alloc; "{whole}.{tenths} kB"),
+            Unit::Megabyte => format!(in alloc; "{whole}.{tenths} MB"),
+            Unit::Gigabyte => format!(in alloc; "{whole}.{tenths} GB"),
         }
     }
 }
 
 /// So many milliseconds, as `35 ms` and from a second on as `1.2 s`.
-pub fn time_text(alloc: Global, milliseconds: u64) -> Result<String, AllocError> {
+pub fn time_text(alloc: Global, milliseconds: u64) -> Result<String, AllocError>
+    ensures { IfOk result (λ text. string_bytes text ≡ time_text milliseconds) }
+{
     let seconds = milliseconds / 1_000;
     let tenths = milliseconds % 1_000 / 100;
     if seconds == 0 {

@@ -1,2 +1,5 @@
+pub mod Externals
 pub mod Found
+pub mod Settings
+pub mod SettingsOf
 pub mod Told

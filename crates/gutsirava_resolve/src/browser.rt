@@ -1,6 +1,7 @@
 //! The map `browser` of a package: what takes another's place for browsers.
 
 use crate::error::ResolutionError;
+use crate::externals::have;
 use crate::files::FileSystem;
 use crate::settings::Settings;
 use crate::tree::Tree;
@@ -95,9 +96,5 @@ fn names_file(key: &str, inner: &str, settings: &Settings) -> bool {
         return false;
     };
     let ending = rest.strip_prefix("/index").unwrap_or(rest);
-    rest.is_empty()
-        || settings
-            .extensions
-            .iter()
-            .any(|extension| extension.as_str() == ending)
+    rest.is_empty() || have(settings.extensions.as_slice(), ending)
 }

@@ -18,6 +18,9 @@ pub trait FileSystem {
     /// That a file is at a path.
     ghost has_file: { List ℕ → Type 0 };
 
+    /// That the second path is the first one without links.
+    ghost is_real: { List ℕ → List ℕ → Type 0 };
+
     /// What stands at the path. What may not be looked at is an error, what is not there is `Missing`.
     fn kind(&self, path: &str) -> io::Result<PathKind>
         ensures { result ≡ Ok PathKind.File → has_file path.now };
@@ -27,12 +30,15 @@ pub trait FileSystem {
 
     /// The path of a file without links.
     fn real_path(&self, alloc: Global, path: &str) -> io::Result<String>
-        ensures { IfOk result (λ real. has_file path.now → has_file (string_bytes real)) };
+        ensures files { IfOk result (λ real. has_file path.now → has_file (string_bytes real)) }
+        ensures real { IfOk result (λ real. is_real path.now (string_bytes real)) };
 }
 
 /// Files that are lent.
 impl<F: FileSystem> FileSystem for &F {
     ghost has_file = { F.has_file };
+
+    ghost is_real = { F.is_real };
 
     fn kind(&self, path: &str) -> io::Result<PathKind> {
         (**self).kind(path)

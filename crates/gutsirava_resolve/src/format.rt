@@ -7,7 +7,7 @@ use gutsirava_package::PackageType;
 use gutsirava_path::{extension, folder_of};
 
 /// What kind of module a file is, by its name and the package that it lies in.
-#[derive(Clone, Copy, Debug, PartialEq, Eq)]
+#[derive(Clone, Copy, PartialEq, Eq)]
 pub enum FileFormat {
     EcmaScript,
     CommonJs,

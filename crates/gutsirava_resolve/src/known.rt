@@ -2,7 +2,7 @@
 ghost use Rattle.std.specs.Prelude.{IfOk, IfSome, string_bytes};
 ghost use Rattle.gutsirava_resolve.specs.Told.{IsTold};
 
-use crate::error::ResolutionError;
+use crate::error::{PathFault, ResolutionError};
 use crate::files::{FileSystem, PathKind};
 use std::alloc::Global;
 use std::collections::BTreeMap;
@@ -103,7 +103,10 @@ fn ask<F: FileSystem>(alloc: Global, files: &F, path: &str) -> Result<KnownPath,
 /// The file system fails at a path.
 pub(crate) fn files_error(alloc: Global, path: &str, cause: io::Error) -> ResolutionError {
     match String::from_str(alloc, path) {
-        Ok(path) => ResolutionError::Files { path, cause },
+        Ok(path) => ResolutionError::File {
+            path,
+            fault: PathFault::System(cause),
+        },
         Err(error) => ResolutionError::Memory(error),
     }
 }

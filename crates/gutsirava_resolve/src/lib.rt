@@ -13,7 +13,7 @@ mod search;
 mod settings;
 mod tree;
 
-pub use error::ResolutionError;
+pub use error::{PathFault, ResolutionError, SpecifierFault};
 pub use externals::Externals;
 pub use files::{FileSystem, PathKind};
 pub use format::FileFormat;

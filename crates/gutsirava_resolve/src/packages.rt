@@ -2,13 +2,13 @@
 ghost use Rattle.std.specs.Prelude.{◌≡◌, IfOk, IfSome, MatchOption, string_bytes};
 ghost use Rattle.gutsirava_resolve.specs.Found.{IsInternalFile};
 
-use crate::error::ResolutionError;
+use crate::error::{PathFault, ResolutionError, SpecifierFault};
 use crate::files::FileSystem;
 use crate::search::NamedPlace;
 use crate::settings::Settings;
 use crate::tree::Tree;
 use gutsirava_package::{Located, TargetError};
-use gutsirava_path::{AddressError, Loader, file_name, join, parent, split_package};
+use gutsirava_path::{Loader, file_name, join, parent, split_package};
 use std::alloc::{AllocError, Global};
 
 /// What is asked for, and how.
@@ -53,11 +53,7 @@ pub(crate) fn address_place(
 ) -> Result<NamedPlace, ResolutionError> {
     match NamedPlace::of_address(alloc, folder, text) {
         Ok(place) => Ok(place),
-        Err(AddressError::Memory(error)) => Err(ResolutionError::Memory(error)),
-        Err(cause) => Err(ResolutionError::Address {
-            specifier: String::from_str(alloc, specifier)?,
-            cause,
-        }),
+        Err(cause) => Err(ResolutionError::address(alloc, specifier, cause)),
     }
 }
 
@@ -71,42 +67,52 @@ impl<F: FileSystem + Drop> Tree<F> {
         ensures { IfOk result (λ found. IfSome found
             (λ file. F.has_file (string_bytes file.path))) }
     {
-        let Wanted {
-            settings,
-            loader,
-            ..
-        } = *wanted;
-        if settings.completes(loader) {
-            let file = self.complete(&place, settings, loader)?;
-            return Ok(with_suffix(file, place.suffix));
-        }
-        self.exact_file(place, wanted)
+        let file = self.path_at(&place, wanted)?;
+        Ok(with_suffix(file, place.suffix))
     }
 
-    /// The file at a place, which is not completed. `import` takes no folder.
-    fn exact_file(
+    /// The path of the file at a place.
+    fn path_at(
         &mut self,
-        place: NamedPlace,
+        place: &NamedPlace,
         wanted: &Wanted<'_, '_>,
-    ) -> Result<Option<Found>, ResolutionError>
-        ensures { IfOk result (λ found. IfSome found
-            (λ file. F.has_file (string_bytes file.path))) }
+    ) -> Result<Option<String>, ResolutionError>
+        ensures { IfOk result (λ found. IfSome found (λ real. F.has_file (string_bytes real))) }
+    {
+        if wanted.settings.completes(wanted.loader) {
+            self.complete(place, wanted.settings, wanted.loader)
+        } else {
+            self.exact_path(place, wanted)
+        }
+    }
+
+    /// The path of the file at a place, which is not completed. `import` takes no folder.
+    fn exact_path(
+        &mut self,
+        place: &NamedPlace,
+        wanted: &Wanted<'_, '_>,
+    ) -> Result<Option<String>, ResolutionError>
+        ensures { IfOk result (λ found. IfSome found (λ real. F.has_file (string_bytes real))) }
     {
         if !place.is_folder {
             let file = self.file(place.path.as_str())?;
             if file.is_some() {
-                return Ok(with_suffix(file, place.suffix));
+                return Ok(file);
             }
         }
-        if wanted.loader == Loader::EcmaScript
-            && (place.is_folder || self.is_folder(place.path.as_str())?)
-        {
-            return Err(ResolutionError::Folder {
-                specifier: String::from_str(self.alloc, wanted.specifier)?,
-                path: place.path,
-            });
+        if wanted.loader == Loader::EcmaScript && self.is_folder_at(place)? {
+            let path = place.path.as_str();
+            return Err(ResolutionError::folder(self.alloc, wanted.specifier, path));
         }
         Ok(None)
+    }
+
+    /// Whether a place names a folder by its form, or one is there.
+    fn is_folder_at(&mut self, place: &NamedPlace) -> Result<bool, ResolutionError> {
+        if place.is_folder {
+            return Ok(true);
+        }
+        self.is_folder(place.path.as_str())
     }
 
     /// The file of a package.
@@ -118,28 +124,59 @@ impl<F: FileSystem + Drop> Tree<F> {
             (λ file. F.has_file (string_bytes file.path))) }
     {
         let split = split_package(wanted.specifier);
-        if let Some((name, rest)) = split {
-            if let Some(scope) = self.own_package(wanted.folder, name)? {
-                return self.exported_file(wanted, scope, rest);
+        match split {
+            Some((name, rest)) => {
+                if let Some(scope) = self.own_package(wanted.folder, name)? {
+                    return self.exported_file(wanted, scope, rest);
+                }
             }
-        } else if wanted.loader == Loader::EcmaScript {
-            let specifier = String::from_str(self.alloc, wanted.specifier)?;
-            return Err(ResolutionError::PackageName { specifier });
+            None => {
+                if wanted.loader == Loader::EcmaScript {
+                    let fault = SpecifierFault::PackageName;
+                    return Err(ResolutionError::of(self.alloc, fault, wanted.specifier));
+                }
+            }
         }
+        self.found_upwards(wanted, split)
+    }
+
+    /// The file of a package in a folder `node_modules` from the folder that asks upwards.
+    fn found_upwards(
+        &mut self,
+        wanted: &Wanted<'_, '_>,
+        split: Option<(&str, &str)>,
+    ) -> Result<Option<Found>, ResolutionError>
+        ensures { IfOk result (λ found. IfSome found
+            (λ file. F.has_file (string_bytes file.path))) }
+    {
         let mut here = wanted.folder;
         loop {
-            if file_name(here) != "node_modules" {
-                let modules = join(self.alloc, here, "node_modules")?;
-                let found = self.installed_file(wanted, modules.as_str(), split)?;
-                if found.is_some() {
-                    return Ok(found);
-                }
+            let found = self.found_below(wanted, here, split)?;
+            if found.is_some() {
+                return Ok(found);
             }
             let Some(above) = parent(here) else {
                 return Ok(None);
             };
             here = above;
         }
+    }
+
+    /// The file of a package in the folder `node_modules` of a folder.
+    fn found_below(
+        &mut self,
+        wanted: &Wanted<'_, '_>,
+        folder: &str,
+        split: Option<(&str, &str)>,
+    ) -> Result<Option<Found>, ResolutionError>
+        ensures { IfOk result (λ found. IfSome found
+            (λ file. F.has_file (string_bytes file.path))) }
+    {
+        if file_name(folder) == "node_modules" {
+            return Ok(None);
+        }
+        let modules = join(self.alloc, folder, "node_modules")?;
+        self.installed_file(wanted, modules.as_str(), split)
     }
 
     /// The folder of the package that asks, where it has the name and exports.
@@ -177,28 +214,61 @@ impl<F: FileSystem + Drop> Tree<F> {
         if !self.is_folder(modules)? {
             return Ok(None);
         }
-        let Some((name, rest)) = split else {
-            let place = wanted.place(self.alloc, modules, wanted.specifier)?;
-            return self.file_at(place, wanted);
-        };
-        let folder = join(self.alloc, modules, name)?;
-        let folder = folder.as_str();
+        match split {
+            Some((name, rest)) => {
+                let folder = join(self.alloc, modules, name)?;
+                self.installed_package(wanted, modules, folder.as_str(), rest)
+            }
+            None => self.file_in(wanted, modules),
+        }
+    }
+
+    /// The file of the package in a folder of a folder `node_modules`.
+    fn installed_package(
+        &mut self,
+        wanted: &Wanted<'_, '_>,
+        modules: &str,
+        folder: &str,
+        rest: &str,
+    ) -> Result<Option<Found>, ResolutionError>
+        ensures { IfOk result (λ found. IfSome found
+            (λ file. F.has_file (string_bytes file.path))) }
+    {
         let is_installed = self.is_folder(folder)?;
-        if is_installed && self.package(folder)?.is_some_and(|p| p.exports.is_some()) {
+        if is_installed && self.has_exports(folder)? {
             return self.exported_file(wanted, folder, rest);
         }
         if wanted.loader == Loader::CommonJs {
-            let place = wanted.place(self.alloc, modules, wanted.specifier)?;
-            return self.file_at(place, wanted);
+            return self.file_in(wanted, modules);
         }
         if !is_installed {
             return Ok(None);
         }
-        let found = self.unexported_file(wanted, folder, rest)?;
-        match found {
+        match self.unexported_file(wanted, folder, rest)? {
             Some(found) => Ok(Some(found)),
             None => Err(self.not_found(wanted.specifier)),
         }
+    }
+
+    /// Whether the package in a folder has exports.
+    fn has_exports(&mut self, folder: &str) -> Result<bool, ResolutionError> {
+        match self.package(folder)? {
+            Some(package) => Ok(package.exports.is_some()),
+            None => Ok(false),
+        }
+    }
+
+    /// The file that the specifier names in a folder.
+    fn file_in(
+        &mut self,
+        wanted: &Wanted<'_, '_>,
+        folder: &str,
+    ) -> Result<Option<Found>, ResolutionError>
+        ensures { IfOk result (λ found. IfSome found
+            (λ file. F.has_file (string_bytes file.path))) }
+    {
+        let place = wanted.place(self.alloc, folder, wanted.specifier)?;
+        self.file_at(place, wanted)
     }
 
     /// The file of a package without exports, for `import`: its main file, or the one at a path.
@@ -230,17 +300,28 @@ impl<F: FileSystem + Drop> Tree<F> {
         ensures { IfOk result (λ found. IfSome found
             (λ file. F.has_file (string_bytes file.path))) }
     {
+        match self.exported_text(wanted, folder, rest)? {
+            Some(text) => Ok(Some(self.target_file(wanted, folder, text.as_str())?)),
+            None => Ok(None),
+        }
+    }
+
+    /// The target that `exports` of the package in a folder names.
+    fn exported_text(
+        &mut self,
+        wanted: &Wanted<'_, '_>,
+        folder: &str,
+        rest: &str,
+    ) -> Result<Option<String>, ResolutionError> {
         let alloc = self.alloc;
-        let subpath = inner_text(alloc, rest)?;
         let conditions = wanted.settings.conditions(wanted.loader);
         let Some(package) = self.package(folder)? else {
             return Ok(None);
         };
+        let subpath = inner_text(alloc, rest)?;
         match package.resolve_export(alloc, subpath.as_str(), conditions) {
-            Ok(Located::Inside(text) | Located::Bare(text)) => {
-                Ok(Some(self.target_file(wanted, folder, text.as_str())?))
-            }
-            Err(cause) => Err(target_error(alloc, folder, cause)?),
+            Ok(Located::Inside(text) | Located::Bare(text)) => Ok(Some(text)),
+            Err(cause) => Err(target_error(alloc, folder, cause)),
         }
     }
 
@@ -255,16 +336,13 @@ impl<F: FileSystem + Drop> Tree<F> {
         ensures { IfOk result (λ file. F.has_file (string_bytes file.path)) }
     {
         let place = address_place(self.alloc, folder, text, wanted.specifier)?;
-        let Some(found) = self.exact_file(place, wanted)? else {
-            return Err(self.not_found(wanted.specifier));
-        };
-        Ok(match wanted.loader {
-            Loader::EcmaScript => found,
-            Loader::CommonJs => Found {
-                path: found.path,
-                suffix: String::new(self.alloc),
-            },
-        })
+        match self.exact_path(&place, wanted)? {
+            Some(path) => Ok(Found {
+                path,
+                suffix: kept_suffix(self.alloc, wanted.loader, place.suffix),
+            }),
+            None => Err(self.not_found(wanted.specifier)),
+        }
     }
 
     /// What `imports` of the package that asks has at a specifier that begins with `#`.
@@ -274,31 +352,57 @@ impl<F: FileSystem + Drop> Tree<F> {
     ) -> Result<Internal, ResolutionError>
         ensures { IfOk result (IsInternalFile F.has_file) }
     {
-        let alloc = self.alloc;
-        let conditions = wanted.settings.conditions(wanted.loader);
         let Some(scope) = self.scope(wanted.folder)? else {
             return Ok(Internal::Undefined);
         };
-        let Some(package) = self.package(scope)? else {
-            return Ok(Internal::Undefined);
-        };
-        if package.imports.is_none() {
-            return Ok(Internal::Undefined);
-        }
-        match package.resolve_import(alloc, wanted.specifier, conditions) {
-            Ok(Located::Inside(text)) => {
+        match self.internal_entry(wanted, scope)? {
+            None => Ok(Internal::Undefined),
+            Some(Located::Inside(text)) => {
                 let found = self.target_file(wanted, scope, text.as_str())?;
                 Ok(Internal::Inside(found))
             }
-            Ok(Located::Bare(text)) if split_package(text.as_str()).is_none() => {
-                Err(ResolutionError::PackageName { specifier: text })
-            }
-            Ok(Located::Bare(text)) => Ok(Internal::Package {
-                folder: String::from_str(alloc, scope)?,
-                specifier: text,
-            }),
-            Err(cause) => Err(target_error(alloc, scope, cause)?),
+            Some(Located::Bare(text)) => self.internal_package(scope, text),
         }
+    }
+
+    /// What `imports` of the package in a folder has, if it has any.
+    fn internal_entry(
+        &mut self,
+        wanted: &Wanted<'_, '_>,
+        folder: &str,
+    ) -> Result<Option<Located>, ResolutionError> {
+        let alloc = self.alloc;
+        let conditions = wanted.settings.conditions(wanted.loader);
+        let Some(package) = self.package(folder)? else {
+            return Ok(None);
+        };
+        if package.imports.is_none() {
+            return Ok(None);
+        }
+        match package.resolve_import(alloc, wanted.specifier, conditions) {
+            Ok(located) => Ok(Some(located)),
+            Err(cause) => Err(target_error(alloc, folder, cause)),
+        }
+    }
+
+    /// The package that an entry of `imports` names, asked for from a folder.
+    fn internal_package(&self, folder: &str, specifier: String) -> Result<Internal, ResolutionError>
+        ensures { IfOk result (IsInternalFile F.has_file) }
+    {
+        if split_package(specifier.as_str()).is_none() {
+            let fault = SpecifierFault::PackageName;
+            return Err(ResolutionError::Specifier { specifier, fault });
+        }
+        let folder = String::from_str(self.alloc, folder)?;
+        Ok(Internal::Package { folder, specifier })
+    }
+}
+
+/// What is kept of what stands behind a path: for `require` nothing.
+fn kept_suffix(alloc: Global, loader: Loader, suffix: String) -> String {
+    match loader {
+        Loader::EcmaScript => suffix,
+        Loader::CommonJs => String::new(alloc),
     }
 }
 
@@ -329,16 +433,15 @@ fn inner_text(alloc: Global, rest: &str) -> Result<String, AllocError> {
 }
 
 /// What is wrong with the package.json of a folder.
-fn target_error(
-    alloc: Global,
-    folder: &str,
-    cause: TargetError,
-) -> Result<ResolutionError, AllocError> {
-    Ok(match cause {
-        TargetError::Memory(error) => ResolutionError::Memory(error),
-        cause => ResolutionError::Target {
-            path: join(alloc, folder, "package.json")?,
-            cause,
+fn target_error(alloc: Global, folder: &str, cause: TargetError) -> ResolutionError {
+    if let TargetError::Memory(refused) = &cause {
+        return ResolutionError::Memory(*refused);
+    }
+    match join(alloc, folder, "package.json") {
+        Ok(path) => ResolutionError::File {
+            path,
+            fault: PathFault::Target(cause),
         },
-    })
+        Err(refused) => ResolutionError::Memory(refused),
+    }
 }

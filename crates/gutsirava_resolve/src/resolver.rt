@@ -3,7 +3,7 @@ ghost use Rattle.std.specs.Prelude.{IfOk, IfSome, string_bytes};
 ghost use Rattle.gutsirava_resolve.specs.Found.{IsFileOf};
 
 use crate::browser::Replacement;
-use crate::error::ResolutionError;
+use crate::error::{ResolutionError, SpecifierFault};
 use crate::files::FileSystem;
 use crate::format::FileFormat;
 use crate::packages::{Found, Internal, Wanted, address_place};
@@ -26,7 +26,6 @@ pub struct ResolveRequest<'a> {
 }
 
 /// What a specifier names.
-#[derive(Drop)]
 pub enum Resolved {
     /// A file, by its path without links, and what stands behind it in the specifier, from `?` or `#` on.
     File { path: String, suffix: String },
@@ -38,6 +37,21 @@ pub enum Resolved {
     ExternalFile(String),
     /// An empty module, which the map `browser` puts in the place of what was asked for.
     Empty(String),
+}
+
+impl Drop for Resolved {
+    fn drop(self) {
+        match self {
+            Resolved::File {
+                path: _path,
+                suffix: _suffix,
+            } => {}
+            Resolved::Builtin(_name) => {}
+            Resolved::External(_specifier) => {}
+            Resolved::ExternalFile(_path) => {}
+            Resolved::Empty(_path) => {}
+        }
+    }
 }
 
 /// Resolves specifiers over a file system, of which it asks nothing twice.
@@ -76,15 +90,20 @@ impl<F: FileSystem + Drop> Resolver<F> {
             return Ok(Resolved::External(String::from_str(alloc, specifier)?));
         }
         self.tree.begin();
-        let named = String::from_str(alloc, specifier)?;
+        if specifier.contains('\0') {
+            return Err(ResolutionError::of(alloc, SpecifierFault::Invalid, specifier));
+        }
         match Specifier::of(specifier, request.loader) {
-            _ if specifier.contains('\0') => Err(ResolutionError::Invalid { specifier: named }),
-            Specifier::Empty => Err(ResolutionError::Invalid { specifier: named }),
-            Specifier::Remote(_) => Err(ResolutionError::Host { specifier: named }),
-            Specifier::UnknownBuiltin(_) => Err(ResolutionError::UnknownBuiltin {
-                specifier: named,
-            }),
-            Specifier::Url(_) => Ok(Resolved::External(named)),
+            Specifier::Empty => Err(ResolutionError::of(alloc, SpecifierFault::Invalid, specifier)),
+            Specifier::Remote(_) => Err(ResolutionError::of(
+                alloc,
+                SpecifierFault::Host,
+                specifier,
+            )),
+            Specifier::UnknownBuiltin(_) => {
+                Err(ResolutionError::of(alloc, SpecifierFault::UnknownBuiltin, specifier))
+            }
+            Specifier::Url(_) => Ok(Resolved::External(String::from_str(alloc, specifier)?)),
             Specifier::Builtin(_) | Specifier::Bare(_) => self.resolve_name(request),
             Specifier::Internal(_) => self.resolve_internal(request),
             Specifier::Relative(text) | Specifier::Absolute(text) => {
@@ -139,9 +158,8 @@ impl<F: FileSystem + Drop> Resolver<F> {
                 self.resolve_package(specifier.as_str(), folder.as_str(), request.loader)
             }
             Internal::Undefined if request.loader == Loader::EcmaScript => {
-                Err(ResolutionError::NoImports {
-                    specifier: String::from_str(self.alloc, request.specifier)?,
-                })
+                let fault = SpecifierFault::NoImports;
+                Err(ResolutionError::of(self.alloc, fault, request.specifier))
             }
             Internal::Undefined => {
                 let folder = folder_of(request.importer);
@@ -201,26 +219,31 @@ impl<F: FileSystem + Drop> Resolver<F> {
     ) -> Result<Resolved, ResolutionError>
         ensures { IfOk result (IsFileOf F.has_file) }
     {
-        let builtin = match Specifier::of(specifier, loader) {
-            Specifier::Builtin(name) => Some(String::from_str(self.alloc, name)?),
-            _ => None,
-        };
-        let is_name = self.settings.prefers_packages && !specifier.starts_with("node:");
-        if let Some(name) = builtin {
-            let found = if is_name {
-                self.find_package(specifier, folder, loader)?
-            } else {
-                None
-            };
-            return match found {
-                Some(found) => self.finish(found),
-                None => Ok(Resolved::Builtin(name)),
-            };
+        if let Specifier::Builtin(name) = Specifier::of(specifier, loader) {
+            return self.resolve_builtin(name, specifier, folder, loader);
         }
         match self.find_package(specifier, folder, loader)? {
             Some(found) => self.finish(found),
             None => Err(self.tree.not_found(specifier)),
         }
+    }
+
+    /// One of Node's modules, or an installed package of its name where packages come first.
+    fn resolve_builtin(
+        &mut self,
+        name: &str,
+        specifier: &str,
+        folder: &str,
+        loader: Loader,
+    ) -> Result<Resolved, ResolutionError>
+        ensures { IfOk result (IsFileOf F.has_file) }
+    {
+        if self.settings.prefers_packages && !specifier.starts_with("node:") {
+            if let Some(found) = self.find_package(specifier, folder, loader)? {
+                return self.finish(found);
+            }
+        }
+        Ok(Resolved::Builtin(String::from_str(self.alloc, name)?))
     }
 
     /// The file of a package.
@@ -247,20 +270,27 @@ impl<F: FileSystem + Drop> Resolver<F> {
         requires { F.has_file (string_bytes found.path) }
         ensures { IfOk result (IsFileOf F.has_file) }
     {
-        let Found { path, suffix } = found;
-        if self.settings.externals.has_path(path.as_str()) {
-            return Ok(Resolved::ExternalFile(path));
+        if self.settings.externals.has_path(found.path.as_str()) {
+            return Ok(Resolved::ExternalFile(found.path));
         }
-        if !self.settings.uses_browser_map {
-            return Ok(Resolved::File { path, suffix });
-        }
-        match self.tree.replaced_file(path.as_str(), &self.settings)? {
-            None => Ok(Resolved::File { path, suffix }),
-            Some(Replacement::Empty) => Ok(Resolved::Empty(path)),
+        match self.replacement(found.path.as_str())? {
+            None => Ok(Resolved::File {
+                path: found.path,
+                suffix: found.suffix,
+            }),
+            Some(Replacement::Empty) => Ok(Resolved::Empty(found.path)),
             Some(Replacement::Text { folder, text }) => {
-                self.replace_file(&folder, &text, path.as_str())
+                self.replace_file(&folder, &text, found.path.as_str())
             }
         }
+    }
+
+    /// What takes the place of the file at a path.
+    fn replacement(&mut self, path: &str) -> Result<Option<Replacement>, ResolutionError> {
+        if !self.settings.uses_browser_map {
+            return Ok(None);
+        }
+        self.tree.replaced_file(path, &self.settings)
     }
 
     /// The file that a text of the map `browser` names in the place of another.

@@ -1,4 +1,6 @@
 //! How specifiers are resolved.
+ghost use Rattle.std.specs.Prelude.{◌≡◌, ◌++◌, ◌∷◌, [], IfOk, OnOk, map, string_bytes};
+ghost use Rattle.gutsirava_resolve.specs.Settings as set;
 
 use crate::externals::Externals;
 use gutsirava_path::Loader;
@@ -21,7 +23,6 @@ pub enum MainField {
 }
 
 /// How specifiers are resolved.
-#[derive(Drop)]
 pub struct Settings {
     /// Which conditions of `exports` and `imports` hold for `import`, and which for `require`; `default` always does.
     pub import_conditions: Vec<String>,
@@ -39,73 +40,78 @@ pub struct Settings {
     pub externals: Externals,
 }
 
+impl Drop for Settings {
+    fn drop(self) {
+        let Settings {
+            import_conditions: _import_conditions,
+            require_conditions: _require_conditions,
+            main_fields: _main_fields,
+            extensions: _extensions,
+            uses_browser_map: _uses_browser_map,
+            completes_imports: _completes_imports,
+            prefers_packages: _prefers_packages,
+            externals: _externals,
+        } = self;
+    }
+}
+
 impl Settings {
-    /// No condition holds, and nothing is completed.
-    fn new(alloc: Global) -> Settings {
-        Settings {
-            import_conditions: Vec::new(alloc),
-            require_conditions: Vec::new(alloc),
-            main_fields: Vec::new(alloc),
-            extensions: Vec::new(alloc),
+    ghost use Rattle.std.specs.Prelude.{◌≡◌, ◌∷◌, [], false, true, codes, IfOk};
+    ghost use Rattle.gutsirava_resolve.specs.declared.settings.MainField.TheVariants.{Main};
+    ghost use Rattle.gutsirava_resolve.specs.Settings as set;
+    ghost use Rattle.gutsirava_resolve.specs.SettingsOf.{AreFlags, IsFor};
+
+    /// As Node resolves.
+    pub fn for_node(alloc: Global) -> Result<Settings, AllocError>
+        ensures flags { IfOk result (AreFlags false false) }
+        ensures lists { IfOk result (IsFor (set.conditions_of (codes "node") (codes "import")
+            (codes "module-sync" ∷ codes "node-addons" ∷ [])) (set.conditions_of (codes "node")
+            (codes "require") (codes "module-sync" ∷ codes "node-addons" ∷ [])) (Main ∷ [])
+            (codes ".js" ∷ codes ".json" ∷ codes ".node" ∷ [])) }
+    {
+        let conditions = Conditions::of(alloc, "node", &["module-sync", "node-addons"])?;
+        let main_fields = vec![in alloc; MainField::Main]?;
+        let extensions = texts_of(alloc, &[".js", ".json", ".node"])?;
+        Ok(Settings {
+            import_conditions: conditions.import,
+            require_conditions: conditions.require,
+            main_fields,
+            extensions,
             uses_browser_map: false,
             completes_imports: false,
             prefers_packages: false,
             externals: Externals::new(alloc),
-        }
-    }
-
-    /// As Node resolves.
-    pub fn for_node(alloc: Global) -> Result<Settings, AllocError> {
-        let mut settings = Settings::new(alloc);
-        settings.add_conditions(alloc, "node", &["module-sync", "node-addons"])?;
-        settings.main_fields.push(MainField::Main)?;
-        add_texts(alloc, &mut settings.extensions, &[".js", ".json", ".node"])?;
-        Ok(settings)
+        })
     }
 
     /// As bundlers resolve for a platform.
-    pub fn for_bundle(alloc: Global, platform: TargetPlatform) -> Result<Settings, AllocError> {
-        let mut settings = Settings::new(alloc);
-        settings.completes_imports = true;
-        add_texts(
-            alloc,
-            &mut settings.extensions,
-            &[".mjs", ".js", ".cjs", ".json"],
-        )?;
-        match platform {
-            TargetPlatform::Node => {
-                settings.add_conditions(alloc, "node", &["module"])?;
-                settings
-                    .main_fields
-                    .extend_from_slice(&[MainField::Main, MainField::Module])?;
-            }
-            TargetPlatform::Browser => {
-                settings.add_conditions(alloc, "browser", &["module"])?;
-                settings
-                    .main_fields
-                    .extend_from_slice(&[MainField::Browser, MainField::Module, MainField::Main])?;
-                settings.uses_browser_map = true;
-                settings.prefers_packages = true;
-            }
-        }
-        Ok(settings)
-    }
-
-    /// Adds what holds for both loaders, and `import` or `require` for its own.
-    fn add_conditions(
-        &mut self,
-        alloc: Global,
-        runtime: &str,
-        others: &[&str],
-    ) -> Result<(), AllocError> {
-        add_texts(alloc, &mut self.import_conditions, &[runtime, "import"])?;
-        add_texts(alloc, &mut self.import_conditions, others)?;
-        add_texts(alloc, &mut self.require_conditions, &[runtime, "require"])?;
-        add_texts(alloc, &mut self.require_conditions, others)
+    pub fn for_bundle(alloc: Global, platform: TargetPlatform) -> Result<Settings, AllocError>
+        ensures flags { IfOk result (AreFlags (set.is_browser platform) true) }
+        ensures lists { IfOk result (IsFor (set.conditions_of (set.runtime_of platform)
+            (codes "import") (codes "module" ∷ [])) (set.conditions_of (set.runtime_of platform)
+            (codes "require") (codes "module" ∷ [])) (set.fields_of platform) (codes ".mjs"
+            ∷ codes ".js" ∷ codes ".cjs" ∷ codes ".json" ∷ [])) }
+    {
+        let conditions = Conditions::of(alloc, platform.runtime(), &["module"])?;
+        let main_fields = platform.main_fields(alloc)?;
+        let extensions = texts_of(alloc, &[".mjs", ".js", ".cjs", ".json"])?;
+        Ok(Settings {
+            import_conditions: conditions.import,
+            require_conditions: conditions.require,
+            main_fields,
+            extensions,
+            uses_browser_map: platform.is_browser(),
+            completes_imports: true,
+            prefers_packages: platform.is_browser(),
+            externals: Externals::new(alloc),
+        })
     }
 
     /// Which conditions hold for a loader.
-    pub fn conditions(&self, loader: Loader) -> &[String] {
+    pub fn conditions(&self, loader: Loader) -> &[String]
+        ensures { result.now ≡ set.conditions_for loader self.now.import_conditions.items
+            self.now.require_conditions.items }
+    {
         match loader {
             Loader::EcmaScript => self.import_conditions.as_slice(),
             Loader::CommonJs => self.require_conditions.as_slice(),
@@ -113,14 +119,118 @@ impl Settings {
     }
 
     /// Whether folders, and files by their endings, are found for a loader.
-    pub fn completes(&self, loader: Loader) -> bool {
-        self.completes_imports || loader == Loader::CommonJs
+    pub fn completes(&self, loader: Loader) -> bool
+        ensures { result ≡ set.completes self.now.completes_imports loader }
+    {
+        match loader {
+            Loader::EcmaScript => self.completes_imports,
+            Loader::CommonJs => true,
+        }
     }
 }
 
-fn add_texts(alloc: Global, texts: &mut Vec<String>, words: &[&str]) -> Result<(), AllocError> {
-    for word in words {
-        texts.push(String::from_str(alloc, word)?)?;
+impl TargetPlatform {
+    ghost use Rattle.std.specs.Prelude.{◌≡◌, IfOk};
+    ghost use Rattle.gutsirava_resolve.specs.Settings as set;
+
+    fn is_browser(self) -> bool
+        ensures { result ≡ set.is_browser self }
+    {
+        match self {
+            TargetPlatform::Node => false,
+            TargetPlatform::Browser => true,
+        }
     }
+
+    /// The condition that holds there.
+    fn runtime(self) -> &'static str
+        ensures { result.now ≡ set.runtime_of self }
+    {
+        match self {
+            TargetPlatform::Node => "node",
+            TargetPlatform::Browser => "browser",
+        }
+    }
+
+    /// The fields that name a main file for it.
+    fn main_fields(self, alloc: Global) -> Result<Vec<MainField>, AllocError>
+        ensures { IfOk result (λ fields. fields.items ≡ set.fields_of self) }
+    {
+        match self {
+            TargetPlatform::Node => Ok(vec![in alloc; MainField::Main, MainField::Module]?),
+            TargetPlatform::Browser => {
+                Ok(vec![in alloc; MainField::Browser, MainField::Module, MainField::Main]?)
+            }
+        }
+    }
+}
+
+/// The conditions that hold for the two loaders.
+#[derive(Drop)]
+struct Conditions {
+    import: Vec<String>,
+    require: Vec<String>,
+}
+
+impl Conditions {
+    ghost use Rattle.std.specs.Prelude.{◌≡◌, codes, IfOk, map, string_bytes};
+    ghost use Rattle.gutsirava_resolve.specs.Settings as set;
+
+    /// What holds for both loaders, and `import` or `require` for its own.
+    fn of(alloc: Global, runtime: &str, others: &[&str]) -> Result<Conditions, AllocError>
+        ensures import { IfOk result (λ it. map string_bytes it.import.items
+            ≡ set.conditions_of runtime.now (codes "import") (map (λ word. word.now) others.now)) }
+        ensures require { IfOk result (λ it. map string_bytes it.require.items
+            ≡ set.conditions_of runtime.now (codes "require") (map (λ word. word.now) others.now)) }
+    {
+        let import = conditions_of(alloc, runtime, "import", others)?;
+        let require = conditions_of(alloc, runtime, "require", others)?;
+        Ok(Conditions { import, require })
+    }
+}
+
+/// The conditions of a loader.
+fn conditions_of(
+    alloc: Global,
+    runtime: &str,
+    loader: &str,
+    others: &[&str],
+) -> Result<Vec<String>, AllocError>
+    ensures { IfOk result (λ texts. map string_bytes texts.items
+        ≡ set.conditions_of runtime.now loader.now (map (λ word. word.now) others.now)) }
+{
+    let mut texts = Vec::new(alloc);
+    add_texts(alloc, &mut texts, &[runtime, loader])?;
+    add_texts(alloc, &mut texts, others)?;
+    Ok(texts)
+}
+
+/// These words as texts.
+fn texts_of(alloc: Global, words: &[&str]) -> Result<Vec<String>, AllocError>
+    ensures { IfOk result (λ texts. map string_bytes texts.items ≡ map (λ word. word.now) words.now) }
+{
+    let mut texts = Vec::new(alloc);
+    add_texts(alloc, &mut texts, words)?;
+    Ok(texts)
+}
+
+/// Adds these words.
+fn add_texts(alloc: Global, texts: &mut Vec<String>, words: &[&str]) -> Result<(), AllocError>
+    ensures { OnOk result (map string_bytes texts.new.items
+        ≡ map string_bytes texts.old.items ++ map (λ word. word.now) words.now) }
+{
+    for word in words {
+        add_text(alloc, texts, word)?;
+    }
+    Ok(())
+}
+
+/// Adds a word.
+fn add_text(alloc: Global, texts: &mut Vec<String>, word: &str) -> Result<(), AllocError>
+    ensures { OnOk result (map string_bytes texts.new.items
+        ≡ map string_bytes texts.old.items ++ word.now ∷ []) }
+{
+    let text = String::from_str(alloc, word)?;
+    texts.push(text)?;
     Ok(())
 }

@@ -1,7 +1,7 @@
 //! The file system with its packages.
 ghost use Rattle.std.specs.Prelude.{IfOk, IfSome, string_bytes};
 
-use crate::error::ResolutionError;
+use crate::error::{PathFault, ResolutionError};
 use crate::files::FileSystem;
 use crate::known::{Known, files_error};
 use gutsirava_package::{Package, PackageError};
@@ -57,11 +57,22 @@ impl<F: FileSystem + Drop> Tree<F> {
     pub(crate) fn file(&mut self, path: &str) -> Result<Option<String>, ResolutionError>
         ensures { IfOk result (λ found. IfSome found (λ real. F.has_file (string_bytes real))) }
     {
-        let found = self.known.file(self.alloc, path)?;
-        if found.is_none() && self.tried.len() < MOST_TRIED {
-            self.tried.push(String::from_str(self.alloc, path)?)?;
+        match self.known.file(self.alloc, path)? {
+            Some(real) => Ok(Some(real)),
+            None => {
+                self.add_tried(path)?;
+                Ok(None)
+            }
         }
-        Ok(found)
+    }
+
+    /// Notes that no file is at a path.
+    fn add_tried(&mut self, path: &str) -> Result<(), AllocError> {
+        if self.tried.len() < MOST_TRIED {
+            let path = String::from_str(self.alloc, path)?;
+            self.tried.push(path)?;
+        }
+        Ok(())
     }
 
     /// What the package.json of a folder says, if it has one.
@@ -79,17 +90,29 @@ impl<F: FileSystem + Drop> Tree<F> {
     /// Reads the package.json of a folder, and keeps what it says.
     fn read_package(&mut self, folder: &str) -> Result<Option<usize>, ResolutionError> {
         let path = join(self.alloc, folder, "package.json")?;
-        let place = if self.known.file(self.alloc, path.as_str())?.is_some() {
-            let package = self.parse_package(path.as_str())?;
-            let at = self.packages.len();
-            self.packages.push(package)?;
-            Some(at)
-        } else {
-            None
-        };
-        self.places
-            .insert(String::from_str(self.alloc, folder)?, place)?;
+        let place = self.read_file(path.as_str())?;
+        self.add_place(folder, place)?;
         Ok(place)
+    }
+
+    /// Reads the package.json at a path, if one is there, and keeps what it says.
+    fn read_file(&mut self, path: &str) -> Result<Option<usize>, ResolutionError> {
+        if self.known.file(self.alloc, path)?.is_none() {
+            return Ok(None);
+        }
+        let package = self.parse_package(path)?;
+        let at = self.packages.len();
+        match self.packages.push(package) {
+            Ok(()) => Ok(Some(at)),
+            Err(refused) => Err(ResolutionError::from(refused)),
+        }
+    }
+
+    /// Keeps where what the package.json of a folder says stands.
+    fn add_place(&mut self, folder: &str, place: Option<usize>) -> Result<(), AllocError> {
+        let folder = String::from_str(self.alloc, folder)?;
+        self.places.insert(folder, place)?;
+        Ok(())
     }
 
     fn parse_package(&mut self, path: &str) -> Result<Package, ResolutionError> {
@@ -99,11 +122,7 @@ impl<F: FileSystem + Drop> Tree<F> {
         };
         match Package::parse(self.alloc, text.as_str()) {
             Ok(package) => Ok(package),
-            Err(PackageError::Memory(error)) => Err(ResolutionError::Memory(error)),
-            Err(cause) => Err(ResolutionError::Package {
-                path: String::from_str(self.alloc, path)?,
-                cause,
-            }),
+            Err(cause) => Err(package_error(self.alloc, path, cause)),
         }
     }
 
@@ -124,6 +143,20 @@ impl<F: FileSystem + Drop> Tree<F> {
             here = above;
         }
         Ok(None)
+    }
+}
+
+/// What is wrong with the package.json at a path.
+fn package_error(alloc: Global, path: &str, cause: PackageError) -> ResolutionError {
+    if let PackageError::Memory(refused) = cause {
+        return ResolutionError::Memory(refused);
+    }
+    match String::from_str(alloc, path) {
+        Ok(path) => ResolutionError::File {
+            path,
+            fault: PathFault::Package(cause),
+        },
+        Err(refused) => ResolutionError::Memory(refused),
     }
 }
 

@@ -32,13 +32,13 @@ pub ends_refused : (may_refuse : Type 0) (options : Options) (bundled : Bundled)
 ends_refused may_refuse options bundled status before after one refused unwritten =
     inr (one, record { why = inr refused; unwritten = unwritten })
 
-pub bundles_told : (told : Result ℕ RunError) (status : ℕ) (may_refuse : Type 0) (options : Options) (bundled : Bundled) (before after : Known)
-    → IsMade options bundled → Ends may_refuse options bundled status before after → IfOk told (λ it. it ≡ status)
-    → IfOk told (λ it. Bundles may_refuse options it before after)
-bundles_told (Ok it) status may_refuse options bundled before after made ends is =
+pub bundles_told : (told : Result ℕ RunError) (status : ℕ) (is_real : List ℕ → List ℕ → Type 0) (may_refuse : Type 0) (folder : List ℕ) (options : Options) (bundled : Bundled) (before after : Known)
+    → IsMade is_real folder options bundled → Ends may_refuse options bundled status before after → IfOk told (λ it. it ≡ status)
+    → IfOk told (λ it. Bundles is_real may_refuse folder options it before after)
+bundles_told (Ok it) status is_real may_refuse folder options bundled before after made ends is =
     let P : ℕ → Type 0 = λ n. Ends may_refuse options bundled n before after in
     record { bundled = bundled; made = made; ends = subst P (sym is) ends }
-bundles_told (Err error) status may_refuse options bundled before after made ends is = tt
+bundles_told (Err error) status is_real may_refuse folder options bundled before after made ends is = tt
 
 kept : (status : ℕ) (may_refuse : Type 0) (options : Options) (bundled : Bundled) (before after : Known)
     → Ends may_refuse options bundled status before after → status ≢ 0 → KeepsAll before.stored after.stored

@@ -13,10 +13,10 @@ all_zip_push R [] (b ∷ ys) x y all here = absurd all
 all_zip_push R (a ∷ xs) [] x y all here = absurd all
 all_zip_push R (a ∷ xs) (b ∷ ys) x y all here = (all.0, all_zip_push R xs ys x y all.1 here)
 
-pub named_more : (begins : List EntryPoint) (entries : List BundleEntry) (i : ℕ) (begin : EntryPoint) (entry : BundleEntry) → i < length begins
-    → begin ≡ get_or begins i begin → AllZip IsNamed (take i begins) entries → IsNamed begin entry
-    → AllZip IsNamed (take (i + 1) begins) (entries ++ entry ∷ [])
-named_more begins entries i begin entry below is all named =
-    let P : List EntryPoint → Type 0 = λ xs. AllZip IsNamed xs (entries ++ entry ∷ []) in
-    let Q : EntryPoint → Type 0 = λ x. AllZip IsNamed (take i begins ++ x ∷ []) (entries ++ entry ∷ []) in
-    subst P (sym (take_more begins i begin below)) (subst Q is (all_zip_push IsNamed (take i begins) entries begin entry all named))
+pub named_more : (is_real : List ℕ → List ℕ → Type 0) (folder : List ℕ) (begins : List EntryPoint) (entries : List BundleEntry) (i : ℕ) (begin : EntryPoint) (entry : BundleEntry) → i < length begins
+    → begin ≡ get_or begins i begin → AllZip (IsNamed is_real folder) (take i begins) entries → IsNamed is_real folder begin entry
+    → AllZip (IsNamed is_real folder) (take (i + 1) begins) (entries ++ entry ∷ [])
+named_more is_real folder begins entries i begin entry below is all named =
+    let P : List EntryPoint → Type 0 = λ xs. AllZip (IsNamed is_real folder) xs (entries ++ entry ∷ []) in
+    let Q : EntryPoint → Type 0 = λ x. AllZip (IsNamed is_real folder) (take i begins ++ x ∷ []) (entries ++ entry ∷ []) in
+    subst P (sym (take_more begins i begin below)) (subst Q is (all_zip_push (IsNamed is_real folder) (take i begins) entries begin entry all named))

@@ -1,6 +1,7 @@
 -- How a run ends.
-use Rattle.std.specs.Prelude.{◌≡◌, ◌≢◌, ◌<◌, ◌⊎◌, ℕ, List, map, Option, Result, Ok, Err, string_bytes}
+use Rattle.std.specs.Prelude.{◌≡◌, ◌≢◌, ◌<◌, ◌⊎◌, ℕ, List, [], map, Option, Result, Ok, Err, String, string_bytes}
 use Rattle.std.specs.List.{flat_map}
+use Rattle.std.specs.declared.alloc.Global.{Global}
 use Rattle.std.specs.Io.KnownBytes.{Keeps, Appends}
 use Rattle.gutsirava_words.specs.declared.help.TheConstants.{HELP, VERSION}
 use Rattle.gutsirava_words.specs.declared.command.Command.{Command}
@@ -70,11 +71,11 @@ Ends may_refuse options bundled status before after =
     ((status ≡ 0) × Delivered options bundled before after)
     ⊎ ((status ≡ 1) × Fails may_refuse bundled before after)
 
--- it ends so for bundles that were made
-pub record Bundles (may_refuse : Type 0) (options : Options) (status : ℕ) (before after : Known)
-    : Type 0 where
+-- it ends so for bundles that were made of what options name from this folder on
+pub record Bundles (is_real : List ℕ → List ℕ → Type 0) (may_refuse : Type 0) (folder : List ℕ)
+    (options : Options) (status : ℕ) (before after : Known) : Type 0 where
   pub bundled : Bundled
-  pub made : IsMade options bundled
+  pub made : IsMade is_real folder options bundled
   pub ends : Ends may_refuse options bundled status before after
 
 -- words that ask for nothing: the status is 2, but for memory, and nothing was written
@@ -83,12 +84,19 @@ pub record IsRefused (error : WordsError) (status : ℕ) (before after : Known) 
   pub memory : error ≡ OutOfMemory → status ≡ 1
   pub unwritten : IsUnwritten before after
 
--- what was asked for is done
-abbrev pub Obeys : Type 0 → Result Command WordsError → ℕ → Known → Known → Type 0
-Obeys may_refuse (Ok commands.Help) status before after =
+-- the path of a folder that could be told
+abbrev pub folder_text : {E : Type 0} → Result (String Global) E → List ℕ
+folder_text (Ok folder) = string_bytes folder
+folder_text (Err cause) = []
+
+-- what was asked for is done, in this folder
+abbrev pub Obeys : (List ℕ → List ℕ → Type 0) → Type 0 → List ℕ → Result Command WordsError → ℕ
+    → Known → Known → Type 0
+Obeys is_real may_refuse folder (Ok commands.Help) status before after =
     (status ≡ 0) × Prints HELP.now before after
-Obeys may_refuse (Ok commands.Version) status before after =
+Obeys is_real may_refuse folder (Ok commands.Version) status before after =
     (status ≡ 0) × Prints VERSION.now before after
-Obeys may_refuse (Ok (commands.Bundle options)) status before after =
-    Bundles may_refuse options status before after
-Obeys may_refuse (Err error) status before after = IsRefused error status before after
+Obeys is_real may_refuse folder (Ok (commands.Bundle options)) status before after =
+    Bundles is_real may_refuse folder options status before after
+Obeys is_real may_refuse folder (Err error) status before after =
+    IsRefused error status before after

@@ -1,7 +1,7 @@
 //! What is asked for is done.
 ghost use Rattle.std.specs.Prelude.{◌≡◌, ◌≢◌, IfOk, OnErr};
 ghost use Rattle.gutsirava_run.specs.Delivery.{KeepsAll};
-ghost use Rattle.gutsirava_run.specs.Ending.{Bundles, Ends, Obeys, known};
+ghost use Rattle.gutsirava_run.specs.Ending.{Bundles, Ends, Obeys, folder_text, known};
 
 use crate::delivery::{deliver, files_of, print};
 use crate::error::RunError;
@@ -29,7 +29,8 @@ pub fn run<F: FileSystem, S: BundleStore, I: Read, O: Write, E: Write, C: Clock>
     surroundings: Surroundings,
     host: &mut Host<F, S, I, O, E, C>,
 ) -> Result<u8, RunError>
-    ensures obeys { IfOk result (λ status. Obeys (S.may_refuse host.old.store) asked.now status
+    ensures obeys { IfOk result (λ status.
+        Obeys F.is_real (S.may_refuse host.old.store) (folder_text surroundings.folder) asked.now status
         (known (O.contents host.old.output) (S.stored host.old.store))
         (known (O.contents host.new.output) (S.stored host.new.store))) }
     ensures failed { OnErr result (KeepsAll (S.stored host.old.store) (S.stored host.new.store)) }
@@ -70,7 +71,8 @@ fn bundle<F: FileSystem, S: BundleStore, I: Read, O: Write, E: Write, C: Clock>(
     surroundings: Surroundings,
     host: &mut Host<F, S, I, O, E, C>,
 ) -> Result<u8, RunError>
-    ensures ends { IfOk result (λ status. Bundles (S.may_refuse host.old.store) options.now status
+    ensures ends { IfOk result (λ status.
+        Bundles F.is_real (S.may_refuse host.old.store) (folder_text surroundings.folder) options.now status
         (known (O.contents host.old.output) (S.stored host.old.store))
         (known (O.contents host.new.output) (S.stored host.new.store))) }
     ensures failed { OnErr result (KeepsAll (S.stored host.old.store) (S.stored host.new.store)) }
@@ -80,7 +82,11 @@ fn bundle<F: FileSystem, S: BundleStore, I: Read, O: Write, E: Write, C: Clock>(
         no_color,
         has_terminal,
     } = surroundings;
-    let folder = folder.map_err(RunError::Folder)?;
+    let report = report_of(options, no_color, has_terminal);
+    let folder = match folder {
+        Ok(folder) => folder,
+        Err(cause) => return Err(RunError::Folder(cause)),
+    };
     let stopwatch = Stopwatch::start(&host.clock).map_err(RunError::Clock)?;
     let is_on = has_terminal && matches!(options.log_level, LogLevel::Info);
     let mut line = ProgressLine::new(&mut host.errors, &stopwatch, is_on);
@@ -93,11 +99,6 @@ fn bundle<F: FileSystem, S: BundleStore, I: Read, O: Write, E: Write, C: Clock>(
         &mut line,
     )?;
     let ended = settle(alloc, options, bundled, &mut host.store, &mut host.output)?;
-    let no_color = no_color.as_ref().map(|text| text.as_str());
-    let report = Report {
-        level: options.log_level,
-        has_colors: options.color.is_on(no_color, has_terminal),
-    };
     let has_files = !matches!(options.output, Destination::Stdout);
     tell(
         alloc,
@@ -107,6 +108,15 @@ fn bundle<F: FileSystem, S: BundleStore, I: Read, O: Write, E: Write, C: Clock>(
         &stopwatch,
         &mut host.errors,
     )
+}
+
+/// How a run is told, where the environment has this `NO_COLOR`, or none.
+fn report_of(options: &Options, no_color: Option<String>, has_terminal: bool) -> Report {
+    let no_color = no_color.as_ref().map(|text| text.as_str());
+    Report {
+        level: options.log_level,
+        has_colors: options.color.is_on(no_color, has_terminal),
+    }
 }
 
 /// How a run ended.

@@ -1,7 +1,7 @@
 //! The files with which bundles begin.
-ghost use Rattle.std.specs.Prelude.{◌≡◌, None, IfOk, IsSome};
+ghost use Rattle.std.specs.Prelude.{◌≡◌, None, IfOk, IsSome, codes, string_bytes};
 ghost use Rattle.std.specs.List.{AllZip};
-ghost use Rattle.gutsirava_run.specs.Making.{IsNamed};
+ghost use Rattle.gutsirava_run.specs.Making.{path_from, IsAt, IsNamed};
 
 use crate::error::RunError;
 use gutsirava_bundle::BundleEntry;
@@ -21,7 +21,8 @@ pub(crate) fn entries_of<F: FileSystem, I: Read>(
     files: &F,
     input: &mut I,
 ) -> Result<Vec<BundleEntry>, RunError>
-    ensures { IfOk result (λ entries. AllZip IsNamed begins.now entries.items) }
+    ensures { IfOk result (λ entries.
+        AllZip (IsNamed F.is_real folder.now) begins.now entries.items) }
 {
     let mut entries = Vec::new(alloc);
     for begin in begins {
@@ -38,7 +39,7 @@ fn entry_of<F: FileSystem, I: Read>(
     files: &F,
     input: &mut I,
 ) -> Result<BundleEntry, RunError>
-    ensures { IfOk result (IsNamed begin.now) }
+    ensures { IfOk result (IsNamed F.is_real folder.now begin.now) }
 {
     match begin {
         EntryPoint::Stdin => stdin_entry(alloc, folder, input),
@@ -48,7 +49,9 @@ fn entry_of<F: FileSystem, I: Read>(
 
 /// The text of the standard input, as if it lay in the folder.
 fn stdin_entry<I: Read>(alloc: Global, folder: &str, input: &mut I) -> Result<BundleEntry, RunError>
-    ensures { IfOk result (λ entry. IsSome entry.text) }
+    ensures text { IfOk result (λ entry. IsSome entry.text) }
+    ensures path { IfOk result (λ entry.
+        string_bytes entry.path ≡ path_from folder.now (codes "<stdin>")) }
 {
     let mut text = String::new(alloc);
     if let Err(cause) = input.read_to_string(&mut text) {
@@ -70,22 +73,29 @@ fn file_entry<F: FileSystem>(
     path: &str,
     files: &F,
 ) -> Result<BundleEntry, RunError>
-    ensures { IfOk result (λ entry. entry.text ≡ None) }
+    ensures text { IfOk result (λ entry. entry.text ≡ None) }
+    ensures path { IfOk result (λ entry.
+        IsAt F.is_real (path_from folder.now path.now) (string_bytes entry.path)) }
 {
     let path = join(alloc, folder, path)?;
     let name = String::from_str(alloc, stem_of(path.as_str()))?;
-    let path = match files.real_path(alloc, path.as_str()) {
-        Ok(path) => path,
-        Err(cause) if cause.kind() == ErrorKind::OutOfMemory => {
-            return Err(RunError::Memory(AllocError));
-        }
-        Err(_) => path,
-    };
+    let path = real_path(alloc, path, files)?;
     Ok(BundleEntry {
         name,
         path,
         text: None,
     })
+}
+
+/// A path without links, or the path where that cannot be told.
+fn real_path<F: FileSystem>(alloc: Global, path: String, files: &F) -> Result<String, RunError>
+    ensures { IfOk result (λ it. IsAt F.is_real (string_bytes path) (string_bytes it)) }
+{
+    match files.real_path(alloc, path.as_str()) {
+        Ok(real) => Ok(real),
+        Err(cause) if cause.kind() == ErrorKind::OutOfMemory => Err(RunError::Memory(AllocError)),
+        Err(_) => Ok(path),
+    }
 }
 
 /// The name of a path's file, without its ending.

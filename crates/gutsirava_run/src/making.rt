@@ -22,7 +22,7 @@ pub(crate) fn make<F: FileSystem, I: Read, E: Write, C: Clock>(
     input: &mut I,
     line: &mut ProgressLine<'_, E, C>,
 ) -> Result<Bundled, RunError>
-    ensures { IfOk result (IsMade options.now) }
+    ensures { IfOk result (IsMade F.is_real folder.now options.now) }
 {
     let settings = settings_of(alloc, options, folder)?;
     let resolution = resolution_of(alloc, options, folder)?;

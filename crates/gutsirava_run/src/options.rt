@@ -1,10 +1,10 @@
 //! The options of the command, as the crates below it take them.
-ghost use Rattle.std.specs.Prelude.{◌≡◌, IfOk};
-ghost use Rattle.gutsirava_run.specs.Making.{IsAskedFor, format_of, is_standard, stay_inline, target_of};
+ghost use Rattle.std.specs.Prelude.{◌≡◌, ◌++◌, map, option_map, string_bytes, IfOk, OnOk};
+ghost use Rattle.gutsirava_run.specs.Making.{IsAskedFor, IsResolvedFor, charset_of, field_of, format_of, global_of, is_standard, output_folder, pair_of, path_from, script_globals, script_name, stay_inline, target_of, text_of};
 
 use gutsirava_bundle::{BundleSettings, Charset, OutputFormat};
 use gutsirava_path::{folder_of, join};
-use gutsirava_resolve::{MainField, Settings as Resolution, TargetPlatform};
+use gutsirava_resolve::{Externals, MainField, Settings as Resolution, TargetPlatform};
 use gutsirava_words::{
     CharsetSetting, Destination, ExternalGlobal, FormatSetting, LegalComments, Options, Order,
     Platform,
@@ -17,7 +17,7 @@ pub(crate) fn settings_of(
     options: &Options,
     folder: &str,
 ) -> Result<BundleSettings, AllocError>
-    ensures { IfOk result (IsAskedFor options.now) }
+    ensures { IfOk result (IsAskedFor folder.now options.now) }
 {
     let script = Script::of(alloc, &options.format)?;
     let folders = Folders::of(alloc, options, folder)?;
@@ -29,10 +29,7 @@ pub(crate) fn settings_of(
         global_name: script.name,
         globals: script.globals,
         meta_url,
-        charset: match options.charset {
-            CharsetSetting::Ascii => Charset::Ascii,
-            CharsetSetting::Utf8 => Charset::Utf8,
-        },
+        charset: charset_of(options.charset),
         keeps_comments: stay_inline(options.legal_comments),
         root: folders.root,
         folder: folders.here,
@@ -47,6 +44,15 @@ pub(crate) fn format_of(format: &FormatSetting) -> OutputFormat
     match format {
         FormatSetting::Esm => OutputFormat::Module,
         FormatSetting::Iife(_) => OutputFormat::Iife,
+    }
+}
+
+fn charset_of(charset: CharsetSetting) -> Charset
+    ensures { result ≡ charset_of charset }
+{
+    match charset {
+        CharsetSetting::Ascii => Charset::Ascii,
+        CharsetSetting::Utf8 => Charset::Utf8,
     }
 }
 
@@ -68,7 +74,11 @@ struct Script {
 
 impl Script {
     /// Nothing, of a module.
-    fn of(alloc: Global, format: &FormatSetting) -> Result<Script, AllocError> {
+    fn of(alloc: Global, format: &FormatSetting) -> Result<Script, AllocError>
+        ensures name { IfOk result (λ it. text_of it.name ≡ script_name format.now) }
+        ensures globals { IfOk result (λ it.
+            map pair_of it.globals.items ≡ script_globals format.now) }
+    {
         match format {
             FormatSetting::Esm => Ok(Script {
                 name: None,
@@ -83,16 +93,22 @@ impl Script {
     }
 }
 
-fn pairs_of(
-    alloc: Global,
-    globals: &[ExternalGlobal],
-) -> Result<Vec<(String, String)>, AllocError> {
+fn pairs_of(alloc: Global, globals: &[ExternalGlobal]) -> Result<Vec<(String, String)>, AllocError>
+    ensures { IfOk result (λ pairs.
+        map pair_of pairs.items ≡ map global_of globals.now) }
+{
     let mut pairs = Vec::new(alloc);
     for global in globals {
-        let specifier = global.specifier.clone()?;
-        pairs.push((specifier, global.name.clone()?))?;
+        pairs.push(pair_of(global)?)?;
     }
     Ok(pairs)
+}
+
+fn pair_of(global: &ExternalGlobal) -> Result<(String, String), AllocError>
+    ensures { IfOk result (λ it. pair_of it ≡ global_of global.now) }
+{
+    let specifier = global.specifier.clone()?;
+    Ok((specifier, global.name.clone()?))
 }
 
 /// The folders that matter to a bundle.
@@ -107,18 +123,34 @@ struct Folders {
 }
 
 impl Folders {
-    fn of(alloc: Global, options: &Options, folder: &str) -> Result<Folders, AllocError> {
-        let root = match &options.root {
-            Some(root) => Some(join(alloc, folder, root.as_str())?),
-            None => None,
-        };
+    fn of(alloc: Global, options: &Options, folder: &str) -> Result<Folders, AllocError>
+        ensures here { IfOk result (λ it. string_bytes it.here ≡ folder.now) }
+        ensures root { IfOk result (λ it. text_of it.root
+            ≡ option_map (λ path. path_from folder.now (string_bytes path)) options.now.root) }
+        ensures output { IfOk result (λ it.
+            string_bytes it.output ≡ output_folder options.now.output folder.now) }
+    {
+        let root = root_of(alloc, &options.root, folder)?;
         let here = String::from_str(alloc, folder)?;
         let output = output_folder(alloc, options, folder)?;
         Ok(Folders { here, root, output })
     }
 }
 
-fn copy_of(text: &Option<String>) -> Result<Option<String>, AllocError> {
+/// The folder that no module may lie outside of.
+fn root_of(alloc: Global, root: &Option<String>, folder: &str) -> Result<Option<String>, AllocError>
+    ensures { IfOk result (λ it. text_of it
+        ≡ option_map (λ path. path_from folder.now (string_bytes path)) root.now) }
+{
+    match root {
+        Some(root) => Ok(Some(join(alloc, folder, root.as_str())?)),
+        None => Ok(None),
+    }
+}
+
+fn copy_of(text: &Option<String>) -> Result<Option<String>, AllocError>
+    ensures { IfOk result (λ it. text_of it ≡ text_of text.now) }
+{
     match text {
         Some(text) => Ok(Some(text.clone()?)),
         None => Ok(None),
@@ -144,7 +176,10 @@ fn stay_inline(comments: LegalComments) -> bool
 }
 
 // The folder in which the bundles will lie.
-fn output_folder(alloc: Global, options: &Options, folder: &str) -> Result<String, AllocError> {
+fn output_folder(alloc: Global, options: &Options, folder: &str) -> Result<String, AllocError>
+    ensures { IfOk result (λ it.
+        string_bytes it ≡ output_folder options.now.output folder.now) }
+{
     match &options.output {
         Destination::Stdout => String::from_str(alloc, folder),
         Destination::Folder(output) => join(alloc, folder, output.as_str()),
@@ -160,23 +195,57 @@ pub(crate) fn resolution_of(
     alloc: Global,
     options: &Options,
     folder: &str,
-) -> Result<Resolution, AllocError> {
+) -> Result<Resolution, AllocError>
+    ensures { IfOk result (IsResolvedFor options.now) }
+{
     let mut settings = Resolution::for_bundle(alloc, target_of(options.platform))?;
-    add_conditions(&mut settings, options.conditions.as_slice())?;
-    if let Some(fields) = &options.main_fields {
-        set_fields(&mut settings.main_fields, fields.as_slice())?;
-    }
-    for external in &options.externals {
-        settings.externals.add(alloc, folder, external.as_str())?;
-    }
+    adapt(alloc, &mut settings, options, folder)?;
     Ok(settings)
 }
 
-/// Adds conditions, for both loaders.
-fn add_conditions(settings: &mut Resolution, conditions: &[String]) -> Result<(), AllocError> {
-    for condition in conditions {
-        settings.import_conditions.push(condition.clone()?)?;
-        settings.require_conditions.push(condition.clone()?)?;
+/// Sets what the options say of resolution.
+fn adapt(
+    alloc: Global,
+    settings: &mut Resolution,
+    options: &Options,
+    folder: &str,
+) -> Result<(), AllocError>
+    ensures { OnOk result (IsResolvedFor options.now settings.new) }
+{
+    let conditions = options.conditions.as_slice();
+    add_texts(&mut settings.import_conditions, conditions)?;
+    add_texts(&mut settings.require_conditions, conditions)?;
+    if let Some(fields) = &options.main_fields {
+        set_fields(&mut settings.main_fields, fields.as_slice())?;
+    }
+    add_externals(
+        alloc,
+        &mut settings.externals,
+        folder,
+        options.externals.as_slice(),
+    )
+}
+
+/// Adds what is left.
+fn add_externals(
+    alloc: Global,
+    externals: &mut Externals,
+    folder: &str,
+    texts: &[String],
+) -> Result<(), AllocError> {
+    for text in texts {
+        externals.add(alloc, folder, text.as_str())?;
+    }
+    Ok(())
+}
+
+/// Adds copies of texts.
+fn add_texts(texts: &mut Vec<String>, more: &[String]) -> Result<(), AllocError>
+    ensures { OnOk result (map string_bytes texts.new.items
+        ≡ map string_bytes texts.old.items ++ map string_bytes more.now) }
+{
+    for text in more {
+        texts.push(text.clone()?)?;
     }
     Ok(())
 }
@@ -185,12 +254,21 @@ fn add_conditions(settings: &mut Resolution, conditions: &[String]) -> Result<()
 fn set_fields(main_fields: &mut Vec<MainField>, names: &[String]) -> Result<(), AllocError> {
     main_fields.clear();
     for name in names {
-        match name.as_str() {
-            "browser" => main_fields.push(MainField::Browser)?,
-            "module" => main_fields.push(MainField::Module)?,
-            "main" => main_fields.push(MainField::Main)?,
-            _ => {}
+        if let Some(field) = field_of(name.as_str()) {
+            main_fields.push(field)?;
         }
     }
     Ok(())
+}
+
+/// The field of package.json that has this name, where one names main files.
+fn field_of(name: &str) -> Option<MainField>
+    ensures { result ≡ field_of name.now }
+{
+    match name {
+        "browser" => Some(MainField::Browser),
+        "module" => Some(MainField::Module),
+        "main" => Some(MainField::Main),
+        _ => None,
+    }
 }

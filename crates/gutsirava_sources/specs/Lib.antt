@@ -3,5 +3,7 @@ pub mod JsonText
 pub mod Places
 pub mod Outline
 pub mod Parts
+pub mod Exports
+pub mod CommonJs
 pub mod Written
 pub mod Rewritten

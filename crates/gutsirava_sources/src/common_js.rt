@@ -1,17 +1,29 @@
 //! The names that a CommonJS module exports, as far as its text shows them.
 
+ghost use Rattle.std.specs.Prelude.{◌≡◌, All, IfOk, IfSome, OnOk};
+ghost use Rattle.std.specs.Bool.{OnTrue};
+ghost use Rattle.gutsirava_sources.specs.CommonJs.{IsRequired};
+
 use crate::outline::{RequestForm, SourceOutline, SourceRequest};
 use crate::pieces::{end_of, is_end, is_key, is_member, is_name, key_at, node_at, text_at};
 use bundle_syntax::{Node, Piece};
 use std::alloc::{AllocError, Global};
 
 /// The names that a CommonJS module exports, as far as its text shows them.
-#[derive(Drop)]
 pub struct CommonJsExports<'a> {
     /// Those that it gives by itself, in the order of the text, some more than once.
     pub names: Vec<&'a str>,
     /// The numbers of the requests of modules all of whose names it exports.
     pub passed: Vec<usize>,
+}
+
+impl Drop for CommonJsExports<'_> {
+    fn drop(self) {
+        let CommonJsExports {
+            names: _names,
+            passed: _passed,
+        } = self;
+    }
 }
 
 // What a node shows of the exports.
@@ -33,7 +45,10 @@ pub fn common_js_exports<'p, 'a>(
     alloc: Global,
     pieces: &'p [Piece<'a>],
     outline: &'p SourceOutline<'a>,
-) -> Result<CommonJsExports<'a>, AllocError> {
+) -> Result<CommonJsExports<'a>, AllocError>
+    ensures { IfOk result (λ exports.
+        All (IsRequired outline.now.requests.items) exports.passed.items) }
+{
     let mut exports = CommonJsExports {
         names: Vec::new(alloc),
         passed: Vec::new(alloc),
@@ -46,13 +61,19 @@ pub fn common_js_exports<'p, 'a>(
 }
 
 impl<'a> CommonJsExports<'a> {
+    ghost use Rattle.std.specs.Prelude.{All, OnOk};
+    ghost use Rattle.gutsirava_sources.specs.CommonJs.{IsRequired};
+
     // Takes in what the node at a place shows.
     fn take_node(
         &mut self,
         pieces: &[Piece<'a>],
         requests: &[SourceRequest<'_>],
         at: usize,
-    ) -> Result<(), AllocError> {
+    ) -> Result<(), AllocError>
+        requires { All (IsRequired requests.now) self.old.passed.items }
+        ensures { OnOk result (All (IsRequired requests.now) self.new.passed.items) }
+    {
         let shown = shown_at(pieces, at);
         match shown {
             ShownExport::Keys(first) => self.take_keys(pieces, requests, first),
@@ -66,7 +87,10 @@ impl<'a> CommonJsExports<'a> {
         pieces: &[Piece<'a>],
         requests: &[SourceRequest<'_>],
         first: usize,
-    ) -> Result<(), AllocError> {
+    ) -> Result<(), AllocError>
+        requires { All (IsRequired requests.now) self.old.passed.items }
+        ensures { OnOk result (All (IsRequired requests.now) self.new.passed.items) }
+    {
         let mut next = first;
         for at in first..pieces.len() {
             if at < next {
@@ -86,7 +110,10 @@ impl<'a> CommonJsExports<'a> {
         &mut self,
         requests: &[SourceRequest<'_>],
         shown: ShownExport<'a>,
-    ) -> Result<(), AllocError> {
+    ) -> Result<(), AllocError>
+        requires { All (IsRequired requests.now) self.old.passed.items }
+        ensures { OnOk result (All (IsRequired requests.now) self.new.passed.items) }
+    {
         match shown {
             ShownExport::Name(name) => self.names.push(name)?,
             ShownExport::Required(from, to) => {
@@ -101,10 +128,26 @@ impl<'a> CommonJsExports<'a> {
 }
 
 // The number of the first `require` that begins between two places.
-fn required_within(requests: &[SourceRequest<'_>], from: usize, to: usize) -> Option<usize> {
-    requests.iter().position(|request| {
-        request.asking == RequestForm::Require && from <= request.begin && request.begin < to
-    })
+fn required_within(requests: &[SourceRequest<'_>], from: usize, to: usize) -> Option<usize>
+    ensures { IfSome result (IsRequired requests.now) }
+{
+    for number in 0..requests.len() {
+        if is_required(&requests[number], from, to) {
+            return Some(number);
+        }
+    }
+    None
+}
+
+// Whether a request is a `require` that begins between two places.
+fn is_required(request: &SourceRequest<'_>, from: usize, to: usize) -> bool
+    ensures { OnTrue result (request.now.asking ≡ RequestForm.Require) }
+{
+    match request.asking {
+        RequestForm::Require => from <= request.begin && request.begin < to,
+        RequestForm::Import => false,
+        RequestForm::Dynamic => false,
+    }
 }
 
 // What the node at a place shows.

@@ -1,12 +1,18 @@
 //! The names that a module exports and takes from others, with their places.
 
-use crate::outline::{RequestForm, SourceOutline};
+ghost use Rattle.std.specs.Prelude.{◌≡◌, ◌≤◌, ◌<◌, All, IfOk, IfSome, IsSomeAnd, OnOk, length, option_map, slice_get};
+ghost use Rattle.gutsirava_sources.specs.Exports as ex;
+ghost use Rattle.gutsirava_sources.specs.Exports.{IsExported, IsTakenName};
+ghost use Rattle.gutsirava_sources.specs.Parts as parts;
+ghost use Rattle.gutsirava_sources.specs.Places as places;
+
+use crate::outline::{RequestForm, SourceOutline, SourceRequest};
 use crate::pieces::{end_of, name_at, node_at, text_at};
 use bundle_syntax::{Node, Piece, Role};
 use std::alloc::{AllocError, Global};
 
 /// A name that a module exports, and the piece that says so.
-#[derive(Clone, Copy, Debug)]
+#[derive(Clone, Copy)]
 pub struct Exported<'a> {
     pub name: &'a str,
     pub piece: usize,
@@ -15,7 +21,7 @@ pub struct Exported<'a> {
 }
 
 /// A name that a module takes from another one, with the number of the request and the piece that says so.
-#[derive(Clone, Copy, Debug)]
+#[derive(Clone, Copy)]
 pub struct TakenName<'a> {
     pub name: &'a str,
     pub request: usize,
@@ -35,10 +41,9 @@ struct ExportWalk {
 }
 
 /// The names that a module exports by itself, in the order of the text. What `export *` gives is not among them.
-pub fn exports_of<'a>(
-    alloc: Global,
-    pieces: &[Piece<'a>],
-) -> Result<Vec<Exported<'a>>, AllocError> {
+pub fn exports_of<'a>(alloc: Global, pieces: &[Piece<'a>]) -> Result<Vec<Exported<'a>>, AllocError>
+    ensures { IfOk result (λ names. All (IsExported pieces.now) names.items) }
+{
     let mut names = Vec::new(alloc);
     let mut walk = ExportWalk {
         depth: 0,
@@ -47,12 +52,29 @@ pub fn exports_of<'a>(
         inner: None,
     };
     for at in 0..pieces.len() {
-        if let Some(exported) = exported_at(pieces, at, walk) {
-            names.push(exported)?;
-        }
+        add_exported(&mut names, pieces, at, walk)?;
         walk = walk_behind(pieces, at, walk);
     }
     Ok(names)
+}
+
+// Adds the name that the piece at a place exports, if it does.
+fn add_exported<'a>(
+    names: &mut Vec<Exported<'a>>,
+    pieces: &[Piece<'a>],
+    at: usize,
+    walk: ExportWalk,
+) -> Result<(), AllocError>
+    requires { All (IsExported pieces.now) names.old.items }
+    ensures { OnOk result (All (IsExported pieces.now) names.new.items) }
+{
+    match exported_at(pieces, at, walk) {
+        Some(exported) => {
+            names.push(exported)?;
+            Ok(())
+        }
+        None => Ok(()),
+    }
 }
 
 // What is known behind the piece at a place.
@@ -106,57 +128,90 @@ impl ExportWalk {
         walk
     }
 
-    // The name that an identifier exports, where a declaration that is exported binds it.
-    fn bound<'a>(self, name: &'a str, role: Role, piece: usize) -> Option<Exported<'a>> {
-        if role == Role::Binding && self.is_declaration && self.inner.is_none() {
-            Some(Exported {
-                name,
-                piece,
-                declared: None,
-            })
-        } else {
-            None
-        }
+    // Whether what is bound here is exported.
+    fn binds_exports(self) -> bool {
+        self.is_declaration && self.inner.is_none()
+    }
+}
+
+// Whether an identifier is bound where it stands.
+fn is_binding(role: Role) -> bool
+    ensures { result ≡ ex.is_binding role }
+{
+    match role {
+        Role::Binding => true,
+        Role::Reference => false,
+        Role::Word => false,
     }
 }
 
 // The name that the piece at a place exports.
-fn exported_at<'a>(pieces: &[Piece<'a>], at: usize, walk: ExportWalk) -> Option<Exported<'a>> {
+#[tactic(auto, unfolding(crate::specs::Exports::name_of_piece, crate::specs::Places::node_in))]
+fn exported_at<'a>(pieces: &[Piece<'a>], at: usize, walk: ExportWalk) -> Option<Exported<'a>>
+    ensures { IfSome result (IsExported pieces.now) }
+{
     match pieces.get(at) {
-        Some(Piece::Ident { sym, role, .. }) => walk.bound(*sym, *role, at),
-        _ => exported_by(pieces, at, walk.has_source),
+        Some(Piece::Ident { sym, role, .. }) => {
+            if is_binding(*role) && walk.binds_exports() {
+                Some(Exported {
+                    name: *sym,
+                    piece: at,
+                    declared: None,
+                })
+            } else {
+                None
+            }
+        }
+        _ => match name_by(pieces, at) {
+            Some(name) => Some(Exported {
+                name,
+                piece: at,
+                declared: declared_by(pieces, at, walk.has_source),
+            }),
+            None => None,
+        },
     }
 }
 
 // The name that the node at a place exports.
-fn exported_by<'a>(pieces: &[Piece<'a>], at: usize, has_source: bool) -> Option<Exported<'a>> {
-    let first = at.saturating_add(1);
-    let name = match node_at(pieces, at) {
-        Some(Node::ExportDefaultDecl | Node::ExportDefaultExpr) => {
-            return Some(Exported {
-                name: "default",
-                piece: at,
-                declared: None,
-            });
-        }
-        Some(Node::ExportNamespaceSpecifier) => name_at(pieces, first)?,
-        Some(Node::ExportNamedSpecifier) => listed_name(pieces, first)?,
-        _ => return None,
-    };
-    Some(Exported {
-        name,
-        piece: at,
-        declared: if has_source {
-            None
-        } else {
-            name_at(pieces, first)
-        },
-    })
+#[tactic(auto, unfolding(crate::specs::Exports::name_of_node))]
+fn name_by<'a>(pieces: &[Piece<'a>], at: usize) -> Option<&'a str>
+    ensures { option_map (λ name. name.now) result
+        ≡ ex.name_of_node (places.node_at pieces.now at) pieces.now at }
+{
+    match node_at(pieces, at) {
+        Some(Node::ExportDefaultDecl) => Some("default"),
+        Some(Node::ExportDefaultExpr) => Some("default"),
+        Some(Node::ExportNamespaceSpecifier) => name_at(pieces, at.saturating_add(1)),
+        Some(Node::ExportNamedSpecifier) => listed_name(pieces, at.saturating_add(1)),
+        _ => None,
+    }
+}
+
+// The name that the specifier at a place says of what the module itself declares.
+fn declared_by<'a>(pieces: &[Piece<'a>], at: usize, has_source: bool) -> Option<&'a str>
+    ensures { IfSome result
+        (λ name. parts.name_at pieces.now (places.behind at 1) ≡ Some name.now) }
+{
+    let is_specifier = matches!(
+        node_at(pieces, at),
+        Some(Node::ExportNamespaceSpecifier | Node::ExportNamedSpecifier)
+    );
+    if is_specifier && !has_source {
+        name_at(pieces, at.saturating_add(1))
+    } else {
+        None
+    }
 }
 
 // The name under which a specifier exports whose first name stands at a place: the second, where it has one.
-fn listed_name<'a>(pieces: &[Piece<'a>], first: usize) -> Option<&'a str> {
-    name_at(pieces, end_of(pieces, first)).or(name_at(pieces, first))
+fn listed_name<'a>(pieces: &[Piece<'a>], first: usize) -> Option<&'a str>
+    ensures { option_map (λ name. name.now) result ≡ ex.listed_name pieces.now first }
+{
+    match name_at(pieces, end_of(pieces, first)) {
+        Some(name) => Some(name),
+        None => name_at(pieces, first),
+    }
 }
 
 // Whether a list of exports that begins at a place has a specifier, which then stands right before its end.
@@ -169,46 +224,86 @@ pub fn taken_of<'a>(
     alloc: Global,
     pieces: &[Piece<'a>],
     outline: &SourceOutline<'_>,
-) -> Result<Vec<TakenName<'a>>, AllocError> {
+) -> Result<Vec<TakenName<'a>>, AllocError>
+    ensures { IfOk result (λ taken. All (IsTakenName pieces.now outline.now.requests.items) taken.items) }
+{
+    let requests = outline.requests.as_slice();
     let mut taken = Vec::new(alloc);
-    for (request, asked) in outline.requests.iter().enumerate() {
-        if asked.asking == RequestForm::Import {
-            add_taken(&mut taken, pieces, request, asked.begin, asked.place)?;
+    for number in 0..requests.len() {
+        if requests[number].asking == RequestForm::Import {
+            add_taken(&mut taken, pieces, requests, number)?;
         }
     }
     Ok(taken)
 }
 
-// Adds the names that the specifiers between two places take.
+// Adds the names that the specifiers of a request take.
 fn add_taken<'a>(
     taken: &mut Vec<TakenName<'a>>,
     pieces: &[Piece<'a>],
-    request: usize,
-    from: usize,
-    to: usize,
-) -> Result<(), AllocError> {
-    for piece in from..to {
-        if let Some(name) = taken_name(pieces, piece) {
-            taken.push(TakenName {
-                name,
-                request,
-                piece,
-            })?;
-        }
+    requests: &[SourceRequest<'_>],
+    number: usize,
+) -> Result<(), AllocError>
+    requires within { number < length requests.now }
+    requires all { All (IsTakenName pieces.now requests.now) taken.old.items }
+    ensures { OnOk result (All (IsTakenName pieces.now requests.now) taken.new.items) }
+{
+    let asked = requests[number];
+    for piece in asked.begin..asked.place {
+        add_name(taken, pieces, requests, number, piece)?;
     }
     Ok(())
 }
 
+// Adds the name that the specifier at a place takes, if one stands there.
+fn add_name<'a>(
+    taken: &mut Vec<TakenName<'a>>,
+    pieces: &[Piece<'a>],
+    requests: &[SourceRequest<'_>],
+    number: usize,
+    piece: usize,
+) -> Result<(), AllocError>
+    requires asked { IsSomeAnd (slice_get requests.now number)
+        (λ request. (request.begin ≤ piece) × (piece < request.place)) }
+    requires all { All (IsTakenName pieces.now requests.now) taken.old.items }
+    ensures { OnOk result (All (IsTakenName pieces.now requests.now) taken.new.items) }
+{
+    match taken_name(pieces, piece) {
+        Some(name) => {
+            taken.push(TakenName {
+                name,
+                request: number,
+                piece,
+            })?;
+            Ok(())
+        }
+        None => Ok(()),
+    }
+}
+
 // The name that a specifier takes.
-fn taken_name<'a>(pieces: &[Piece<'a>], at: usize) -> Option<&'a str> {
-    let first = at.saturating_add(1);
+#[tactic(auto, unfolding(crate::specs::Exports::taken_by))]
+fn taken_name<'a>(pieces: &[Piece<'a>], at: usize) -> Option<&'a str>
+    ensures { option_map (λ name. name.now) result
+        ≡ ex.taken_by (places.node_at pieces.now at) pieces.now at }
+{
     match node_at(pieces, at) {
         Some(Node::ImportDefaultSpecifier) => Some("default"),
-        Some(Node::ExportNamedSpecifier) => name_at(pieces, first),
+        Some(Node::ExportNamedSpecifier) => name_at(pieces, at.saturating_add(1)),
         // The imported name stands behind the local one.
-        Some(Node::ImportNamedSpecifier) => {
-            name_at(pieces, at.saturating_add(2)).or(name_at(pieces, first))
-        }
+        Some(Node::ImportNamedSpecifier) => imported_name(pieces, at),
         _ => None,
+    }
+}
+
+// The name that a specifier imports that begins at a place.
+fn imported_name<'a>(pieces: &[Piece<'a>], at: usize) -> Option<&'a str>
+    ensures { option_map (λ name. name.now) result
+        ≡ ex.name_or (parts.name_at pieces.now (places.behind at 2))
+        (parts.name_at pieces.now (places.behind at 1)) }
+{
+    match name_at(pieces, at.saturating_add(2)) {
+        Some(name) => Some(name),
+        None => name_at(pieces, at.saturating_add(1)),
     }
 }

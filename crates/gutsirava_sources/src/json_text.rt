@@ -5,18 +5,15 @@ ghost use Rattle.gutsirava_sources.specs.JsonText.{IsJson, IsRefusedFor, module_
 
 use json::{Reader, Scratch};
 use std::alloc::{AllocError, Global};
-use thiserror::Error;
 
 /// So many values may lie in each other.
 const MOST_DEPTH: usize = 128;
 
 /// Why a text is no JSON.
-#[derive(Debug, Drop, Error)]
+#[derive(Clone, Copy)]
 pub enum JsonError {
-    /// It is none from about this byte on.
-    #[error("the text is no JSON, or nests deeper than 128 levels")]
+    /// It is none from about this byte on, or nests deeper than 128 levels.
     Form { at: usize },
-    #[error(transparent)]
     Memory(AllocError),
 }
 

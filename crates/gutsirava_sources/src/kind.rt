@@ -6,7 +6,7 @@ use bundle_js_read::{Goal, ReadError, SourceModule};
 use std::alloc::Global;
 
 /// What the name of a file and its package say of its text.
-#[derive(Clone, Copy, Debug, PartialEq, Eq)]
+#[derive(Clone, Copy)]
 pub enum DeclaredKind {
     EcmaScript,
     CommonJs,
@@ -14,7 +14,7 @@ pub enum DeclaredKind {
 }
 
 /// What a module is.
-#[derive(Clone, Copy, Debug, PartialEq, Eq)]
+#[derive(Clone, Copy, PartialEq, Eq)]
 pub enum SourceKind {
     EcmaScript,
     CommonJs,

@@ -11,7 +11,7 @@ use bundle_syntax::{Node, Piece};
 use std::alloc::{AllocError, Global};
 
 /// How another module is asked for.
-#[derive(Clone, Copy, Debug, PartialEq, Eq)]
+#[derive(Clone, Copy, PartialEq, Eq)]
 pub enum RequestForm {
     /// By an `import` or `export` declaration.
     Import,
@@ -22,7 +22,7 @@ pub enum RequestForm {
 }
 
 /// A module that is asked for by a literal.
-#[derive(Clone, Copy, Debug)]
+#[derive(Clone, Copy)]
 pub struct SourceRequest<'a> {
     pub specifier: &'a str,
     pub asking: RequestForm,
@@ -36,7 +36,6 @@ pub struct SourceRequest<'a> {
 }
 
 /// What a module asks for, and by what it is told what it is.
-#[derive(Drop)]
 pub struct SourceOutline<'a> {
     /// In the order of the text.
     pub requests: Vec<SourceRequest<'a>>,
@@ -51,6 +50,19 @@ pub struct SourceOutline<'a> {
     /// The pieces of `require.main`, ascending.
     pub mains: Vec<usize>,
     ghost ascending: { IsNonDecreasing mains.items },
+}
+
+impl Drop for SourceOutline<'_> {
+    fn drop(self) {
+        let SourceOutline {
+            requests: _requests,
+            has_declarations: _has_declarations,
+            meta: _meta,
+            names_common_js: _names_common_js,
+            unknown: _unknown,
+            mains: _mains,
+        } = self;
+    }
 }
 
 // What a node is for what lies in it.

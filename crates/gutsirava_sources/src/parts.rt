@@ -9,7 +9,7 @@ use crate::pieces::{is_member, name_at, node_at, node_before};
 use bundle_syntax::{Node, Piece, Role};
 
 /// Which parts of a module a declaration asks for.
-#[derive(Clone, Copy, Debug, PartialEq, Eq)]
+#[derive(Clone, Copy)]
 pub struct RequestParts {
     /// Its default export, by that name.
     pub default: bool,

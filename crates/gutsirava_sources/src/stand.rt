@@ -5,7 +5,7 @@ use bundle_syntax::ExportMetadata;
 
 /// The texts that stand for a request by an ECMAScript module, part by part. Each is the key of a module: of the one that
 /// is asked for, or of one between, which gives what the linker would not give by itself.
-#[derive(Clone, Copy, Debug)]
+#[derive(Clone, Copy)]
 pub struct PartKeys<'k> {
     /// Of the module itself: its properties by their names.
     pub names: &'k str,
@@ -20,7 +20,7 @@ pub struct PartKeys<'k> {
 }
 
 /// What stands in the place of a specifier.
-#[derive(Clone, Copy, Debug)]
+#[derive(Clone, Copy)]
 pub enum Stand<'k> {
     /// This text, of what is left to whoever runs the bundle.
     Left(&'k str),
@@ -36,7 +36,7 @@ pub enum Stand<'k> {
 }
 
 /// What a module is, and what it keeps.
-#[derive(Clone, Copy, Debug)]
+#[derive(Clone, Copy)]
 pub struct Seat<'k> {
     pub kind: SourceKind,
     /// Whether `import.meta` is that of the bundle.

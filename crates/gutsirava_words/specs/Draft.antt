@@ -1,5 +1,6 @@
 -- What a word changes, and what is made of all of them.
-use Rattle.std.specs.Prelude.{◌≡◌, ◌≢◌, ◌<◌, ◌⊎◌, ℕ, List, [], ◌∷◌, ◌++◌, Option, Some, None, map, codes, IsSomeAnd, IsSome, IsNone, vec_len, Vec, String}
+use Rattle.std.specs.Prelude.{◌≡◌, ◌≢◌, ◌<◌, ◌⊎◌, ◌==◌, ℕ, List, [], ◌∷◌, ◌++◌, Option, Some, None, map, codes, IsSomeAnd, IsSome, IsNone, vec_len, Vec, String}
+use Rattle.std.specs.List.{slice_split}
 use Rattle.std.specs.declared.alloc.Global.{Global}
 use Rattle.std.specs.String.{string_bytes}
 use Rattle.gutsirava_words.specs.Choice.{format_text, platform_text, order_text, charset_text, legal_comments_text, log_level_text, color_text}
@@ -47,7 +48,21 @@ pub record IsFresh (draft : Draft) : Type 0 where
 abbrev pub IsText : Option (String Global) → List ℕ → Type 0
 IsText text value = IsSomeAnd text (λ t. string_bytes t ≡ value)
 
--- the option has that value in the new draft, or one more, and nothing else differs
+-- what stands between the commas of a value
+abbrev pub parts_of : List ℕ → List (List ℕ)
+parts_of value = slice_split (λ b. b == 44) value
+
+-- the texts that are there
+abbrev pub texts_of : Option (Vec (String Global) Global) → List (List ℕ)
+texts_of None = []
+texts_of (Some texts) = map string_bytes texts.items
+
+-- a module and its variable, as `react=React`
+abbrev pub pair_text : ExternalGlobal → List ℕ
+pair_text it = string_bytes it.specifier ++ (61 ∷ string_bytes it.name)
+
+-- the option has that value in the new draft, or what is between its commas more, and nothing else
+-- differs
 abbrev pub Sets : Key → List ℕ → Draft → Draft → Type 0
 Sets keys.Outfile value old new =
     IsText new.outfile value × (new ≡ record old { outfile = new.outfile })
@@ -57,14 +72,22 @@ Sets keys.Format value old new =
     (format_text new.format ≡ value) × (new ≡ record old { format = new.format })
 Sets keys.GlobalName value old new =
     IsText new.global_name value × (new ≡ record old { global_name = new.global_name })
-Sets keys.Globals value old new = new ≡ record old { globals = new.globals }
+Sets keys.Globals value old new =
+    (map pair_text new.globals.items ≡ map pair_text old.globals.items ++ parts_of value)
+    × (new ≡ record old { globals = new.globals })
 Sets keys.External value old new =
     (map string_bytes new.externals.items ≡ map string_bytes old.externals.items ++ value ∷ [])
     × (new ≡ record old { externals = new.externals })
 Sets keys.Platform value old new =
     (platform_text new.platform ≡ value) × (new ≡ record old { platform = new.platform })
-Sets keys.Conditions value old new = new ≡ record old { conditions = new.conditions }
-Sets keys.MainFields value old new = new ≡ record old { main_fields = new.main_fields }
+Sets keys.Conditions value old new =
+    (map string_bytes new.conditions.items
+    ≡ map string_bytes old.conditions.items ++ parts_of value)
+    × (new ≡ record old { conditions = new.conditions })
+Sets keys.MainFields value old new =
+    IsSomeAnd new.main_fields (λ it.
+    map string_bytes it.items ≡ texts_of old.main_fields ++ parts_of value)
+    × (new ≡ record old { main_fields = new.main_fields })
 Sets keys.Order value old new =
     (order_text new.order ≡ value) × (new ≡ record old { order = new.order })
 Sets keys.Root value old new = IsText new.root value × (new ≡ record old { root = new.root })
@@ -100,6 +123,24 @@ Contradicts draft =
     ⊎ (((1 < vec_len draft.entries) × IsNone draft.outdir)
     ⊎ ((IsSome draft.outfile × IsSome draft.outdir)
     ⊎ ((draft.format ≡ kinds.Esm) × (IsSome draft.global_name ⊎ (0 < vec_len draft.globals)))))
+
+-- one of two texts at most is there
+abbrev pub IsOneAtMost : Option (String Global) → Option (String Global) → Type 0
+IsOneAtMost None folder = Unit {0}
+IsOneAtMost (Some path) None = Unit {0}
+IsOneAtMost (Some path) (Some folder) = ⊥
+
+-- a module has neither a name nor globals
+abbrev pub AreOfFormat : FormatKind → Option (String Global) → List ExternalGlobal → Type 0
+AreOfFormat kinds.Iife name globals = Unit {0}
+AreOfFormat kinds.Esm name globals = (name ≡ None) × (globals ≡ [])
+
+-- the words do not contradict each other
+pub record Agrees (draft : Draft) : Type 0 where
+  pub some : 0 < vec_len draft.entries
+  pub one_output : IsOneAtMost draft.outfile draft.outdir
+  pub one_unless_folder : 1 < vec_len draft.entries → IsSome draft.outdir
+  pub of_format : AreOfFormat draft.format draft.global_name draft.globals.items
 
 -- where bundles go: into the folder, to the file, or to the standard output where there is neither
 -- or the file is `-`

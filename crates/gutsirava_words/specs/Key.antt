@@ -1,5 +1,5 @@
 -- The options that take a value.
-use Rattle.std.specs.Prelude.{ℕ, List, codes}
+use Rattle.std.specs.Prelude.{ℕ, Bool, true, false, List, codes}
 use Rattle.gutsirava_words.specs.declared.key.Key.{Key}
 use Rattle.gutsirava_words.specs.declared.key.Key.TheVariants as keys
 
@@ -21,3 +21,11 @@ key_text keys.LegalComments = codes "--legal-comments"
 key_text keys.DefineMeta = codes "--define-meta"
 key_text keys.LogLevel = codes "--log-level"
 key_text keys.Color = codes "--color"
+
+-- whether a use of an option adds to those before it
+abbrev pub adds_up : Key → Bool
+adds_up keys.Globals = true
+adds_up keys.External = true
+adds_up keys.Conditions = true
+adds_up keys.MainFields = true
+adds_up _ = false

@@ -2,3 +2,4 @@ pub mod Choice
 pub mod Draft
 pub mod Key
 pub mod Output
+pub mod Refusal

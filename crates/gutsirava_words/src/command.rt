@@ -8,13 +8,31 @@ use crate::{Key, Options, WordsError};
 use std::alloc::Global;
 
 /// What is to be done.
-#[derive(Drop)]
 pub enum Command {
     /// To bundle.
     Bundle(Options),
     /// To print `HELP`.
     Help,
     /// To print `VERSION`.
+    Version,
+}
+
+/// Lets go of it. Written by hand, so that who lets one go from another crate calls this function, where a derived one
+/// would be proved anew in that crate.
+impl Drop for Command {
+    fn drop(self) {
+        match self {
+            Command::Bundle(_options) => {}
+            Command::Help | Command::Version => {}
+        }
+    }
+}
+
+// What words ask for.
+#[derive(Clone, Copy)]
+enum CommandKind {
+    Bundle,
+    Help,
     Version,
 }
 
@@ -38,40 +56,72 @@ impl Command {
         if words.is_empty() {
             return Ok(Command::Help);
         }
-        let mut reading = CommandReader {
+        let mut reader = CommandReader {
             draft: Draft::new(alloc),
             key: None,
             has_ended: false,
         };
-        for word in words {
-            if let Some(command) = reading.read(word.as_str())? {
-                return Ok(command);
+        let kind = reader.read_all(words);
+        match kind {
+            Ok(CommandKind::Bundle) => reader.finish(),
+            other => {
+                drop(reader);
+                other.map(CommandKind::plain)
             }
         }
-        match reading.key {
-            Some(key) => Err(WordsError::NoValue { key }),
-            None => Ok(Command::Bundle(reading.draft.finish()?)),
+    }
+}
+
+impl CommandKind {
+    // What asks for nothing of the other words.
+    fn plain(self) -> Command {
+        match self {
+            CommandKind::Help => Command::Help,
+            _ => Command::Version,
         }
     }
 }
 
 impl CommandReader {
-    // Reads a word, and gives what it asks for if the others do not matter.
-    fn read(&mut self, text: &str) -> Result<Option<Command>, WordsError> {
+    // To bundle, as the words say.
+    fn finish(self) -> Result<Command, WordsError> {
+        Ok(Command::Bundle(self.draft.finish()?))
+    }
+
+    // Reads words up to one that asks for help or the version.
+    fn read_all(&mut self, words: &[String]) -> Result<CommandKind, WordsError> {
+        for word in words {
+            match self.read(word.as_str())? {
+                CommandKind::Bundle => {}
+                kind => return Ok(kind),
+            }
+        }
+        match self.key {
+            Some(key) => Err(WordsError::NoValue { key }),
+            None => Ok(CommandKind::Bundle),
+        }
+    }
+
+    // Reads a word, and gives what it asks for if the others do not matter; else to bundle.
+    fn read(&mut self, text: &str) -> Result<CommandKind, WordsError> {
         if let Some(key) = self.key.take() {
             if text.len() > 1 && text.starts_with('-') {
                 return Err(WordsError::NoValue { key });
             }
             self.draft.set(key, text)?;
-            return Ok(None);
-        }
-        if self.has_ended {
+        } else if self.has_ended {
             self.draft.add_entry(text)?;
-            return Ok(None);
+        } else {
+            return self.read_word(Word::of(text));
         }
-        match Word::of(text) {
-            Word::Help => return Ok(Some(Command::Help)),
-            Word::Version => return Ok(Some(Command::Version)),
+        Ok(CommandKind::Bundle)
+    }
+
+    // The same for a word that is no value and stands before `--`.
+    fn read_word(&mut self, word: Word<'_>) -> Result<CommandKind, WordsError> {
+        match word {
+            Word::Help => return Ok(CommandKind::Help),
+            Word::Version => return Ok(CommandKind::Version),
             Word::End => self.has_ended = true,
             Word::Entry(path) => self.draft.add_entry(path)?,
             Word::Value(key, Some(value)) => self.draft.set(key, value)?,
@@ -79,6 +129,6 @@ impl CommandReader {
             Word::NeedlessValue(name) => return Err(WordsError::NeedlessValue { name }),
             Word::Unknown(name) => return Err(WordsError::unknown(self.draft.alloc, name)),
         }
-        Ok(None)
+        Ok(CommandKind::Bundle)
     }
 }

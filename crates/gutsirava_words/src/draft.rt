@@ -1,7 +1,7 @@
 //! Options while words are read.
 
-ghost use Rattle.std.specs.Prelude.{◌≡◌, ◌<◌, ◌⊎◌, vec_len, IsSome, OnOk, OnErr, IfOk};
-ghost use Rattle.gutsirava_words.specs.Draft.{Sets, AddsEntry, Names, Leads, Writes, Holds, Contradicts, IsFresh};
+ghost use Rattle.std.specs.Prelude.{◌≡◌, ◌<◌, ◌⊎◌, ◌++◌, [], ◌∷◌, map, string_bytes, vec_len, IsSome, IsSomeAnd, OnOk, OnErr, IfOk};
+ghost use Rattle.gutsirava_words.specs.Draft.{pair_text, parts_of, texts_of, Sets, AddsEntry, Agrees, IsOneAtMost, IsText, Names, Leads, Holds, Contradicts, IsFresh};
 
 use crate::name::is_variable;
 use crate::{
@@ -11,7 +11,6 @@ use crate::{
 use std::alloc::Global;
 
 /// What the words so far have set.
-#[derive(Drop)]
 pub struct Draft {
     pub alloc: Global,
     pub entries: Vec<EntryPoint>,
@@ -31,6 +30,32 @@ pub struct Draft {
     pub meta_url: Option<String>,
     pub log_level: LogLevel,
     pub color: Color,
+}
+
+/// Lets go of it, by one function for all that stop reading.
+impl Drop for Draft {
+    fn drop(self) {
+        let Draft {
+            alloc: _alloc,
+            entries: _entries,
+            outfile: _outfile,
+            outdir: _outdir,
+            format: _format,
+            global_name: _global_name,
+            globals: _globals,
+            externals: _externals,
+            platform: _platform,
+            conditions: _conditions,
+            main_fields: _main_fields,
+            order: _order,
+            root: _root,
+            charset: _charset,
+            legal_comments: _legal_comments,
+            meta_url: _meta_url,
+            log_level: _log_level,
+            color: _color,
+        } = self;
+    }
 }
 
 impl Draft {
@@ -87,34 +112,37 @@ impl Draft {
             return Err(WordsError::NoValue { key });
         }
         match key {
-            Key::Format => {
-                self.format = chosen(alloc, key, value, FormatKind::from_text(value))?;
-                Ok(())
-            }
-            Key::Platform => {
-                self.platform = chosen(alloc, key, value, Platform::from_text(value))?;
-                Ok(())
-            }
-            Key::Order => {
-                self.order = chosen(alloc, key, value, Order::from_text(value))?;
-                Ok(())
-            }
+            Key::Format => choose(
+                key,
+                value,
+                alloc,
+                &mut self.format,
+                FormatKind::from_text(value),
+            ),
+            Key::Platform => choose(
+                key,
+                value,
+                alloc,
+                &mut self.platform,
+                Platform::from_text(value),
+            ),
+            Key::Order => choose(key, value, alloc, &mut self.order, Order::from_text(value)),
             Key::Charset => {
-                self.charset = chosen(alloc, key, value, CharsetSetting::from_text(value))?;
-                Ok(())
+                let charset = CharsetSetting::from_text(value);
+                choose(key, value, alloc, &mut self.charset, charset)
             }
             Key::LegalComments => {
-                self.legal_comments = chosen(alloc, key, value, LegalComments::from_text(value))?;
-                Ok(())
+                let comments = LegalComments::from_text(value);
+                choose(key, value, alloc, &mut self.legal_comments, comments)
             }
-            Key::LogLevel => {
-                self.log_level = chosen(alloc, key, value, LogLevel::from_text(value))?;
-                Ok(())
-            }
-            Key::Color => {
-                self.color = chosen(alloc, key, value, Color::from_text(value))?;
-                Ok(())
-            }
+            Key::LogLevel => choose(
+                key,
+                value,
+                alloc,
+                &mut self.log_level,
+                LogLevel::from_text(value),
+            ),
+            Key::Color => choose(key, value, alloc, &mut self.color, Color::from_text(value)),
             _ => self.set_text(key, value),
         }
     }
@@ -125,41 +153,15 @@ impl Draft {
     {
         let alloc = self.alloc;
         match key {
-            Key::Outfile => {
-                self.outfile = Some(String::from_str(alloc, value)?);
-                Ok(())
-            }
-            Key::Outdir => {
-                self.outdir = Some(String::from_str(alloc, value)?);
-                Ok(())
-            }
-            Key::Root => {
-                self.root = Some(String::from_str(alloc, value)?);
-                Ok(())
-            }
-            Key::DefineMeta => {
-                self.meta_url = Some(String::from_str(alloc, value)?);
-                Ok(())
-            }
-            Key::GlobalName if is_variable(value) => {
-                self.global_name = Some(String::from_str(alloc, value)?);
-                Ok(())
-            }
-            Key::External if value.bytes().filter(|byte| *byte == b'*').count() <= 1 => {
-                self.externals.push(String::from_str(alloc, value)?)?;
-                Ok(())
-            }
+            Key::Outfile => put_text(alloc, &mut self.outfile, value),
+            Key::Outdir => put_text(alloc, &mut self.outdir, value),
+            Key::Root => put_text(alloc, &mut self.root, value),
+            Key::DefineMeta => put_text(alloc, &mut self.meta_url, value),
+            Key::GlobalName if is_variable(value) => put_text(alloc, &mut self.global_name, value),
+            Key::External if has_one_star(value) => add_text(alloc, &mut self.externals, value),
             Key::Globals => add_globals(alloc, &mut self.globals, value),
             Key::Conditions => add_parts(alloc, &mut self.conditions, key, value),
-            Key::MainFields => {
-                let mut fields = match self.main_fields.take() {
-                    Some(fields) => fields,
-                    None => Vec::new(alloc),
-                };
-                add_parts(alloc, &mut fields, key, value)?;
-                self.main_fields = Some(fields);
-                Ok(())
-            }
+            Key::MainFields => add_fields(alloc, &mut self.main_fields, key, value),
             _ => Err(bad_value(alloc, key, value)),
         }
     }
@@ -169,30 +171,89 @@ impl Draft {
         ensures refused { OnErr result (Contradicts self) }
         ensures holds { IfOk result (Holds self) }
     {
+        self.check()?;
+        Ok(self.options())
+    }
+
+    // Refuses words that contradict each other.
+    fn check(&self) -> Result<(), WordsError>
+        ensures refused { OnErr result (Contradicts self.now) }
+        ensures agrees { OnOk result (Agrees self.now) }
+    {
         if self.entries.is_empty() {
             return Err(WordsError::NoEntry);
         }
-        let output = output_of(self.outfile, self.outdir)?;
-        if !output.takes(self.entries.len()) {
+        if self.outfile.is_some() && self.outdir.is_some() {
+            return Err(WordsError::TwoOutputs);
+        }
+        if self.entries.len() > 1 && self.outdir.is_none() {
             return Err(WordsError::NoFolder);
         }
-        let format = format_of(self.format, self.global_name, self.globals)?;
-        Ok(Options {
-            entries: self.entries,
-            output,
+        match self.format {
+            FormatKind::Iife => Ok(()),
+            FormatKind::Esm => self.check_module(),
+        }
+    }
+
+    // Refuses what only scripts have.
+    fn check_module(&self) -> Result<(), WordsError>
+        ensures refused { OnErr result
+            (IsSome self.now.global_name ⊎ (0 < vec_len self.now.globals)) }
+        ensures none { OnOk result (self.now.global_name ≡ None) }
+        ensures empty { OnOk result (self.now.globals.items ≡ []) }
+    {
+        if self.global_name.is_some() {
+            return Err(WordsError::OfScripts {
+                key: Key::GlobalName,
+            });
+        }
+        if !self.globals.is_empty() {
+            return Err(WordsError::OfScripts { key: Key::Globals });
+        }
+        Ok(())
+    }
+
+    // The options of words that do not contradict each other.
+    fn options(self) -> Options
+        requires { Agrees self }
+        ensures { Holds self result }
+    {
+        let Draft {
+            alloc: _alloc,
+            entries,
+            outfile,
+            outdir,
             format,
-            externals: self.externals,
-            platform: self.platform,
-            conditions: self.conditions,
-            main_fields: self.main_fields,
-            order: self.order,
-            root: self.root,
-            charset: self.charset,
-            legal_comments: self.legal_comments,
-            meta_url: self.meta_url,
-            log_level: self.log_level,
-            color: self.color,
-        })
+            global_name,
+            globals,
+            externals,
+            platform,
+            conditions,
+            main_fields,
+            order,
+            root,
+            charset,
+            legal_comments,
+            meta_url,
+            log_level,
+            color,
+        } = self;
+        Options {
+            entries,
+            output: output_of(outfile, outdir),
+            format: format_of(format, global_name, globals),
+            externals,
+            platform,
+            conditions,
+            main_fields,
+            order,
+            root,
+            charset,
+            legal_comments,
+            meta_url,
+            log_level,
+            color,
+        }
     }
 }
 
@@ -209,59 +270,71 @@ fn entry_of(alloc: Global, word: &str) -> Result<EntryPoint, WordsError>
     Ok(EntryPoint::File(String::from_str(alloc, word)?))
 }
 
-// Where bundles go by the two options.
-fn output_of(outfile: Option<String>, outdir: Option<String>) -> Result<Destination, WordsError>
-    ensures leads { IfOk result (Leads outfile outdir) }
-    ensures refused { OnErr result (IsSome outfile × IsSome outdir) }
+// Where bundles go by the two options, of which one at most is given.
+fn output_of(outfile: Option<String>, outdir: Option<String>) -> Destination
+    requires { IsOneAtMost outfile outdir }
+    ensures { Leads outfile outdir result }
 {
-    match (outfile, outdir) {
-        (None, None) => Ok(Destination::Stdout),
-        (None, Some(folder)) => Ok(Destination::Folder(folder)),
-        (Some(path), None) => {
-            if path.as_str() == "-" {
-                Ok(Destination::Stdout)
-            } else {
-                Ok(Destination::File(path))
-            }
-        }
-        (Some(_), Some(_)) => Err(WordsError::TwoOutputs),
+    if let Some(folder) = outdir {
+        return Destination::Folder(folder);
+    }
+    match outfile {
+        Some(path) if path.as_str() != "-" => Destination::File(path),
+        _ => Destination::Stdout,
     }
 }
 
 // What bundles are written as by the three options.
-fn format_of(
-    kind: FormatKind,
-    name: Option<String>,
-    globals: Vec<ExternalGlobal>,
-) -> Result<FormatSetting, WordsError>
-    ensures writes { IfOk result (Writes kind name globals) }
-    ensures refused { OnErr result ((kind ≡ FormatKind.Esm)
-        × (IsSome name ⊎ (0 < vec_len globals))) }
+fn format_of(kind: FormatKind, name: Option<String>, globals: Vec<ExternalGlobal>) -> FormatSetting
+    ensures script { kind ≡ FormatKind.Iife
+        → result ≡ FormatSetting.Iife (record { name = name; globals = globals }) }
+    ensures module_only { kind ≡ FormatKind.Esm → result ≡ FormatSetting.Esm }
 {
     match kind {
-        FormatKind::Iife => Ok(FormatSetting::Iife(Iife { name, globals })),
-        FormatKind::Esm => {
-            if name.is_some() {
-                Err(WordsError::OfScripts {
-                    key: Key::GlobalName,
-                })
-            } else if !globals.is_empty() {
-                Err(WordsError::OfScripts { key: Key::Globals })
-            } else {
-                Ok(FormatSetting::Esm)
-            }
-        }
+        FormatKind::Iife => FormatSetting::Iife(Iife { name, globals }),
+        FormatKind::Esm => FormatSetting::Esm,
     }
 }
 
-// The choice, or that the option has no such value.
-fn chosen<T>(alloc: Global, key: Key, value: &str, choice: Option<T>) -> Result<T, WordsError>
-    ensures { IfOk result (λ it. choice ≡ Some it) }
+// Makes a choice, or tells that the option has no such value.
+fn choose<T: Copy>(
+    key: Key,
+    value: &str,
+    alloc: Global,
+    setting: &mut T,
+    choice: Option<T>,
+) -> Result<(), WordsError>
+    ensures { OnOk result (choice ≡ Some setting.new) }
 {
     match choice {
-        Some(it) => Ok(it),
+        Some(it) => {
+            *setting = it;
+            Ok(())
+        }
         None => Err(bad_value(alloc, key, value)),
     }
+}
+
+// Puts down a text.
+fn put_text(alloc: Global, setting: &mut Option<String>, value: &str) -> Result<(), WordsError>
+    ensures { OnOk result (IsText setting.new value.now) }
+{
+    *setting = Some(String::from_str(alloc, value)?);
+    Ok(())
+}
+
+// Adds a text.
+fn add_text(alloc: Global, texts: &mut Vec<String>, value: &str) -> Result<(), WordsError>
+    ensures { OnOk result (map string_bytes texts.new.items
+        ≡ map string_bytes texts.old.items ++ value.now ∷ []) }
+{
+    texts.push(String::from_str(alloc, value)?)?;
+    Ok(())
+}
+
+// Whether a pattern has at most one `*`.
+fn has_one_star(value: &str) -> bool {
+    value.bytes().filter(|byte| *byte == b'*').count() <= 1
 }
 
 fn bad_value(alloc: Global, key: Key, value: &str) -> WordsError {
@@ -277,13 +350,35 @@ fn add_parts(
     parts: &mut Vec<String>,
     key: Key,
     value: &str,
-) -> Result<(), WordsError> {
+) -> Result<(), WordsError>
+    ensures { OnOk result (map string_bytes parts.new.items
+        ≡ map string_bytes parts.old.items ++ parts_of value.now) }
+{
     for part in value.split(',') {
         if part.is_empty() {
             return Err(bad_value(alloc, key, value));
         }
-        parts.push(String::from_str(alloc, part)?)?;
+        add_text(alloc, parts, part)?;
     }
+    Ok(())
+}
+
+// Adds fields to those that are named so far, if any are.
+fn add_fields(
+    alloc: Global,
+    fields: &mut Option<Vec<String>>,
+    key: Key,
+    value: &str,
+) -> Result<(), WordsError>
+    ensures { OnOk result (IsSomeAnd fields.new (λ it. map string_bytes it.items
+        ≡ texts_of fields.old ++ parts_of value.now)) }
+{
+    let mut all = match fields.take() {
+        Some(all) => all,
+        None => Vec::new(alloc),
+    };
+    add_parts(alloc, &mut all, key, value)?;
+    *fields = Some(all);
     Ok(())
 }
 
@@ -292,17 +387,34 @@ fn add_globals(
     alloc: Global,
     globals: &mut Vec<ExternalGlobal>,
     value: &str,
-) -> Result<(), WordsError> {
+) -> Result<(), WordsError>
+    ensures { OnOk result (map pair_text globals.new.items
+        ≡ map pair_text globals.old.items ++ parts_of value.now) }
+{
     for pair in value.split(',') {
         match pair.rsplit_once('=') {
             Some((specifier, name)) if !specifier.is_empty() && is_variable(name) => {
-                globals.push(ExternalGlobal {
-                    specifier: String::from_str(alloc, specifier)?,
-                    name: String::from_str(alloc, name)?,
-                })?;
+                add_global(alloc, globals, specifier, name)?;
             }
             _ => return Err(bad_value(alloc, Key::Globals, value)),
         }
     }
+    Ok(())
+}
+
+// Adds a module with its variable.
+fn add_global(
+    alloc: Global,
+    globals: &mut Vec<ExternalGlobal>,
+    specifier: &str,
+    name: &str,
+) -> Result<(), WordsError>
+    ensures { OnOk result (map pair_text globals.new.items
+        ≡ map pair_text globals.old.items ++ (specifier.now ++ (61 ∷ name.now)) ∷ []) }
+{
+    globals.push(ExternalGlobal {
+        specifier: String::from_str(alloc, specifier)?,
+        name: String::from_str(alloc, name)?,
+    })?;
     Ok(())
 }

@@ -6,7 +6,6 @@ use std::alloc::{AllocError, AllocFailed, Global};
 use std::fmt;
 
 /// Why there are no options. Its text holds words as they were given, control characters among them.
-#[derive(Drop)]
 pub enum WordsError {
     /// There is no such option, and the nearest is that one, if one is near.
     Unknown {
@@ -44,14 +43,54 @@ pub enum WordsError {
     OutOfMemory,
 }
 
+/// Lets go of it, by hand as for a `Command`.
+impl Drop for WordsError {
+    fn drop(self) {
+        match self {
+            WordsError::Unknown {
+                word: _word,
+                nearest: _nearest,
+            } => {}
+            WordsError::BadValue {
+                key: _key,
+                value: _value,
+            } => {}
+            WordsError::NoValue { key: _key } => {}
+            WordsError::NeedlessValue { name: _name } => {}
+            WordsError::OfScripts { key: _key } => {}
+            WordsError::EmptyWord
+            | WordsError::NoEntry
+            | WordsError::DoubledStdin
+            | WordsError::TwoOutputs
+            | WordsError::NoFolder
+            | WordsError::OutOfMemory => {}
+        }
+    }
+}
+
 impl WordsError {
     ghost use Rattle.std.specs.Prelude.{◌≡◌, ◌≢◌};
+    ghost use Rattle.gutsirava_words.specs.Refusal.{IsUnknown};
 
     /// That there is no option of this name, with the nearest.
-    pub fn unknown(alloc: Global, name: &str) -> WordsError {
+    pub fn unknown(alloc: Global, name: &str) -> WordsError
+        ensures { IsUnknown name.now result }
+    {
         match (String::from_str(alloc, name), nearest(alloc, name)) {
             (Ok(word), Ok(nearest)) => WordsError::Unknown { word, nearest },
             _ => WordsError::OutOfMemory,
+        }
+    }
+
+    // What is wrong, where that tells nothing of the words.
+    fn plain_sentence(&self) -> &'static str {
+        match self {
+            WordsError::EmptyWord => "an empty word names no file",
+            WordsError::NoEntry => "there is no file to bundle",
+            WordsError::DoubledStdin => "the standard input can be read only once",
+            WordsError::TwoOutputs => "--outfile and --outdir exclude each other",
+            WordsError::NoFolder => "several files need --outdir",
+            _ => "out of memory",
         }
     }
 
@@ -74,32 +113,41 @@ impl fmt::Display for WordsError {
             WordsError::Unknown {
                 word,
                 nearest: None,
-            } => { write!(f, "there is no option {word}: gutsirava --help tells all") }
+            } => put(
+                f,
+                "there is no option ",
+                word.as_str(),
+                ": gutsirava --help tells all",
+            ),
             WordsError::Unknown {
                 word,
                 nearest: Some(nearest),
-            } => { write!(f, "there is no option {word}: did you mean {nearest}?") }
-            WordsError::NoValue { key } => {
-                let (name, values) = (key.name(), key.values());
-                write!(f, "{name} needs a value: {values}")
+            } => {
+                put(f, "there is no option ", word.as_str(), ": did you mean ")?;
+                put(f, nearest, "?", "")
             }
-            WordsError::NeedlessValue { name } => write!(f, "{name} takes no value"),
+            WordsError::NoValue { key } => put(f, key.name(), " needs a value: ", key.values()),
+            WordsError::NeedlessValue { name } => put(f, name, " takes no value", ""),
             WordsError::BadValue { key, value } => {
-                let (name, values) = (key.name(), key.values());
-                write!(f, "{name}={value}: the value is {values}")
+                put(f, key.name(), "=", value.as_str())?;
+                put(f, ": the value is ", key.values(), "")
             }
-            WordsError::EmptyWord => write!(f, "an empty word names no file"),
-            WordsError::NoEntry => write!(f, "there is no file to bundle"),
-            WordsError::DoubledStdin => write!(f, "the standard input can be read only once"),
-            WordsError::TwoOutputs => write!(f, "--outfile and --outdir exclude each other"),
-            WordsError::NoFolder => write!(f, "several files need --outdir"),
-            WordsError::OfScripts { key } => {
-                let name = key.name();
-                write!(f, "{name} needs --format=iife")
-            }
-            WordsError::OutOfMemory => write!(f, "out of memory"),
+            WordsError::OfScripts { key } => put(f, key.name(), " needs --format=iife", ""),
+            other => f.write_str(other.plain_sentence()),
         }
     }
+}
+
+// Writes texts, one behind the other.
+fn put<W: fmt::Write>(
+    f: &mut fmt::Formatter<W>,
+    first: &str,
+    second: &str,
+    third: &str,
+) -> fmt::Result {
+    f.write_str(first)?;
+    f.write_str(second)?;
+    f.write_str(third)
 }
 
 impl From<AllocError> for WordsError {

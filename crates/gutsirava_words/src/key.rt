@@ -23,7 +23,7 @@ pub enum Key {
 
 impl Key {
     ghost use Rattle.std.specs.Prelude.{◌≡◌, ◌≢◌, Some, IfSome, IfNone};
-    ghost use Rattle.gutsirava_words.specs.Key.{key_text};
+    ghost use Rattle.gutsirava_words.specs.Key.{adds_up, key_text};
 
     /// The option as it is written.
     pub fn name(self) -> &'static str
@@ -76,7 +76,9 @@ impl Key {
     }
 
     /// Whether each use of the option adds to what those before it gave. Of the others, the last use holds.
-    pub fn adds_up(self) -> bool {
+    pub fn adds_up(self) -> bool
+        ensures { result ≡ adds_up self }
+    {
         matches!(
             self,
             Key::Globals | Key::External | Key::Conditions | Key::MainFields

@@ -1,6 +1,6 @@
 //! What a bundle is made of, and how.
 
-ghost use Rattle.std.specs.Prelude.{◌≡◌, ◌<◌, ◌||◌, nat_le, vec_len, IsTrue};
+ghost use Rattle.std.specs.Prelude.{◌<◌, ◌||◌, nat_le, vec_len, IsTrue};
 ghost use Rattle.gutsirava_words.specs.Output.{is_folder};
 
 use crate::{CharsetSetting, Color, LegalComments, LogLevel, Order, Platform};
@@ -23,22 +23,6 @@ pub enum Destination {
     File(String),
     /// The bundle of each entry into this folder.
     Folder(String),
-}
-
-impl Destination {
-    /// Whether each bundle goes into a folder.
-    pub fn is_folder(&self) -> bool
-        ensures { result ≡ is_folder self.now }
-    {
-        matches!(self, Destination::Folder(_))
-    }
-
-    /// Whether so many bundles may go there.
-    pub fn takes(&self, count: usize) -> bool
-        ensures { result ≡ (nat_le count 1 || is_folder self.now) }
-    {
-        count <= 1 || self.is_folder()
-    }
 }
 
 /// What a bundle is written as.

@@ -26,11 +26,15 @@ impl Word<'_> {
             return Word::Entry(text);
         }
         match text {
-            "--" => return Word::End,
-            "-h" | "--help" => return Word::Help,
-            "--version" => return Word::Version,
-            _ => {}
+            "--" => Word::End,
+            "-h" | "--help" => Word::Help,
+            "--version" => Word::Version,
+            _ => Word::option(text),
         }
+    }
+
+    // What a word is that begins with `-` and stands for more than itself.
+    fn option(text: &str) -> Word<'_> {
         let (name, value) = match text.split_once('=') {
             Some((name, value)) => (name, Some(value)),
             None => (text, None),

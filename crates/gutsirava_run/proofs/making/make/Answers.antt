@@ -8,7 +8,7 @@ use Rattle.gutsirava_run.proofs.making.make.Goals as goal
 pub returns : goal.returns
 returns g c =
     let entries = c.in_ok-entries.entries.items in
-    let P : List EntryPoint → Type 0 = λ begins. AllZip IsNamed begins entries in
+    let P : List EntryPoint → Type 0 = λ begins. AllZip (IsNamed g.F.FileSystem.is_real c.args.folder.now) begins entries in
     record {
       settings = c.in_ok-settings.settings;
       entries = entries;

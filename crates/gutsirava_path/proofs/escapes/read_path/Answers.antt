@@ -1,7 +1,7 @@
 -- A path in which no NUL was found holds none.
 use Rattle.std.proofs.Common.{◌≡◌, true, false, lit<}
 use Rattle.std.proofs.lemmas.Str.Pattern.{contains_char}
-use Rattle.gutsirava_path.proofs.escapes.decode.Goals as goal
+use Rattle.gutsirava_path.proofs.escapes.read_path.Goals as goal
 
 pub returns : goal.returns
 returns c = λ i within is_nul.

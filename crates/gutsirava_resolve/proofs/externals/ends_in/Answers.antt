@@ -1,0 +1,6 @@
+-- By the bytes at the end.
+use Rattle.std.proofs.lemmas.Str.Pattern.{ends_text}
+use Rattle.gutsirava_resolve.proofs.externals.ends_in.Goals as goal
+
+pub returns : goal.returns
+returns c = ends_text c.ends_with.result c.args.back.now c.args.text.now c.ends_with.ensures.cases

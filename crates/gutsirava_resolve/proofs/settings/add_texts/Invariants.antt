@@ -1,0 +1,7 @@
+use Rattle.std.proofs.Common.{◌≡◌, ◌++◌, map, take, string_bytes}
+use Rattle.gutsirava_resolve.proofs.settings.add_texts.Given as goal
+
+abbrev pub invariant-loop-word : goal.invariant-loop-word
+invariant-loop-word l =
+    map string_bytes l.texts.items
+    ≡ map string_bytes l.initial.texts.items ++ map (λ word. word.now) (take l.word-index l.words)

@@ -1,0 +1,7 @@
+use Rattle.std.proofs.Common.{◌≡◌, ◌++◌, map, take, string_bytes}
+use Rattle.gutsirava_run.proofs.options.add_texts.Given as goal
+
+abbrev pub invariant-loop-text : goal.invariant-loop-text
+invariant-loop-text l =
+    map string_bytes l.texts.items
+    ≡ map string_bytes l.initial.texts.items ++ map string_bytes (take l.text-index l.more)
