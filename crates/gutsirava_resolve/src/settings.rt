@@ -207,7 +207,8 @@ fn conditions_of(
 
 /// These words as texts.
 fn texts_of(alloc: Global, words: &[&str]) -> Result<Vec<String>, AllocError>
-    ensures { IfOk result (λ texts. map string_bytes texts.items ≡ map (λ word. word.now) words.now) }
+    ensures { IfOk result (λ texts.
+        map string_bytes texts.items ≡ map (λ word. word.now) words.now) }
 {
     let mut texts = Vec::new(alloc);
     add_texts(alloc, &mut texts, words)?;

@@ -225,7 +225,8 @@ pub fn taken_of<'a>(
     pieces: &[Piece<'a>],
     outline: &SourceOutline<'_>,
 ) -> Result<Vec<TakenName<'a>>, AllocError>
-    ensures { IfOk result (λ taken. All (IsTakenName pieces.now outline.now.requests.items) taken.items) }
+    ensures { IfOk result (λ taken.
+        All (IsTakenName pieces.now outline.now.requests.items) taken.items) }
 {
     let requests = outline.requests.as_slice();
     let mut taken = Vec::new(alloc);
