@@ -1,15 +1,18 @@
 -- How what is left of a list follows from step to step.
-use Rattle.std.proofs.Common.{◌≡◌, ℕ, zero, suc, ◌+◌, ◌-◌, ◌<◌, ◌≤◌, Bool, true, false, cond, List, [], ◌∷◌, length, map, drop, get_or, drop-cons, Option, Some, None, Result, Ok, Err, refl, sym, ap, subst, ◌∙◌, arith}
+use Rattle.std.proofs.Common.{◌≡◌, ℕ, zero, suc, ◌+◌, ◌-◌, ◌<◌, ◌≤◌, Bool, true, false, cond, List, [], ◌∷◌, ◌++◌, length, map, drop, get_or, drop-cons, Option, Some, None, Result, Ok, Err, refl, sym, ap, subst, ◌∙◌, arith}
 use Rattle.std.proofs.lemmas.Bool.{false≢true}
 use Rattle.std.proofs.lemmas.Grind.{common_steps}
-use Rattle.std.specs.Prelude.{nat_eq, IfErr}
+use Rattle.std.specs.Prelude.{nat_eq}
+use Rattle.bundle_tree_parse.specs.Built.{Builds, BuildsNode, BuildsLeaf, Leaves}
 use Rattle.bundle_tree_listed.proofs.Rows.{rows}
 use Rattle.bundle_tree_list.proofs.Steps.{steps}
 use Rattle.bundle_syntax.specs.declared.piece.Role.{Role}
+use Rattle.bundle_tree_parse.specs.declared.build.BuildError.{BuildError}
+use Rattle.bundle_tree_parse.specs.declared.build.BuildError.TheVariants.{Form}
 use Rattle.bundle_syntax.specs.Item as h
 use Rattle.bundle_syntax.specs.declared.piece.Piece.{Piece}
 use Rattle.bundle_syntax.specs.Item.{Item, Head, item_of}
-use Rattle.bundle_tree_parse.specs.Sorts.{Sort, AnIdent, AModuleName, AString, Refused, Fields, holds, name_of}
+use Rattle.bundle_tree_parse.specs.Sorts.{Sort, Holding, AnIdent, AModuleName, AString, Refused, Fields, holds, name_of}
 use Rattle.bundle_tree_parse.specs.Parse.{Taker, Opening, opened, begins_in, begins_with_ident, after_ident, after_name, after_each, after_close, after_inside, after_node, after_opening, after_one, closed, within, taken, then, is_zero, outwards, is_source, is_end, depth_behind, has_source}
 
 pub within-more : (less room : ℕ) → less + 1 ≡ room → within room ≡ Some (taken less)
@@ -18,49 +21,15 @@ within-more less room e = subst (λ n. within n ≡ Some (taken less)) (let s : 
 pub within-none : (room : ℕ) → room < 1 → within room ≡ None
 within-none room e = subst (λ n. within n ≡ None) (let s : zero ≡ room = omega (arith, e) in s) refl
 
--- A node.
+-- A node that begins, and none.
 
 a_node : (room : Option Taker) (sort : Sort) (field : ℕ) (list : List Item) (node : Opening) → opened field list ≡ Some node → after_one room sort field list ≡ after_node room (holds sort node.head) node.inside
 unfolding after_one
 a_node room sort field list node e = ap (after_opening room sort field list) e
 
-pub place_done : (room less : ℕ) (sort : Sort) (field : ℕ) (list inside left rest : List Item) (head : Head) → opened field list ≡ Some (record { head = head; inside = inside }) → within room ≡ Some (taken less) → after_inside (taken less) (holds sort head) inside ≡ Some left → left ≡ h.Close ∷ rest → taken room sort field list ≡ Some rest
-place_done room less sort field list inside left rest head e fits is close =
-    a_node (within room) sort field list (record { head = head; inside = inside }) e
-    ∙ (ap (λ o. after_node o (holds sort head) inside) fits ∙ (ap closed is ∙ ap after_close close))
-
-pub place_full : (room : ℕ) (sort : Sort) (field : ℕ) (list inside : List Item) (head : Head) → opened field list ≡ Some (record { head = head; inside = inside }) → within room ≡ None → taken room sort field list ≡ None
-place_full room sort field list inside head e full =
-    a_node (within room) sort field list (record { head = head; inside = inside }) e
-    ∙ ap (λ o. after_node o (holds sort head) inside) full
-
-pub place_unfinished : (room less : ℕ) (sort : Sort) (field : ℕ) (list inside : List Item) (head : Head) → opened field list ≡ Some (record { head = head; inside = inside }) → within room ≡ Some (taken less) → after_inside (taken less) (holds sort head) inside ≡ None → taken room sort field list ≡ None
-place_unfinished room less sort field list inside head e fits is =
-    a_node (within room) sort field list (record { head = head; inside = inside }) e
-    ∙ (ap (λ o. after_node o (holds sort head) inside) fits ∙ ap closed is)
-
-pub place_unclosed : (room less : ℕ) (sort : Sort) (field : ℕ) (list inside left : List Item) (head : Head) → opened field list ≡ Some (record { head = head; inside = inside }) → within room ≡ Some (taken less) → after_inside (taken less) (holds sort head) inside ≡ Some left → after_close left ≡ None → taken room sort field list ≡ None
-place_unclosed room less sort field list inside left head e fits is close =
-    a_node (within room) sort field list (record { head = head; inside = inside }) e
-    ∙ (ap (λ o. after_node o (holds sort head) inside) fits ∙ (ap closed is ∙ close))
-
--- A node that holds nothing.
-
-pub leaf_done : (room less : ℕ) (sort : Sort) (field : ℕ) (list inside rest : List Item) (head : Head) → opened field list ≡ Some (record { head = head; inside = inside }) → within room ≡ Some (taken less) → holds sort head ≡ Fields [] → inside ≡ h.Close ∷ rest → taken room sort field list ≡ Some rest
-leaf_done room less sort field list inside rest head e fits is close =
-    place_done room less sort field list inside inside rest head e fits (ap (λ o. after_inside (taken less) o inside) is) close
-
-pub leaf_refused : (room less : ℕ) (sort : Sort) (field : ℕ) (list inside : List Item) (head : Head) → opened field list ≡ Some (record { head = head; inside = inside }) → within room ≡ Some (taken less) → holds sort head ≡ Refused → taken room sort field list ≡ None
-leaf_refused room less sort field list inside head e fits is =
-    place_unfinished room less sort field list inside head e fits (ap (λ o. after_inside (taken less) o inside) is)
-
-pub leaf_unclosed : (room less : ℕ) (sort : Sort) (field : ℕ) (list inside : List Item) (head : Head) → opened field list ≡ Some (record { head = head; inside = inside }) → within room ≡ Some (taken less) → holds sort head ≡ Fields [] → after_close inside ≡ None → taken room sort field list ≡ None
-leaf_unclosed room less sort field list inside head e fits is close =
-    place_unclosed room less sort field list inside inside head e fits (ap (λ o. after_inside (taken less) o inside) is) close
-
-pub same_string : (role : Role) (head : Head) → holds (AModuleName role) head ≡ holds AString head
-same_string role (h.Str value raw) = refl
-same_string role _ = refl
+no_opening : (room : Option Taker) (sort : Sort) (field : ℕ) (list : List Item) → opened field list ≡ None → after_one room sort field list ≡ after_name (name_of sort) field list
+unfolding after_one
+no_opening room sort field list e = ap (after_opening room sort field list) e
 
 -- A name, and what is none and no node.
 
@@ -79,10 +48,6 @@ no_name (Some role) field (h.Ident at x ctxt found ∷ rest) e = absurd (false�
 no_name (Some role) field (h.Hole at ∷ rest) e = refl
 no_name (Some role) field (h.Close ∷ rest) e = refl
 no_name (Some role) field (h.Open at it ∷ rest) e = refl
-
-no_opening : (room : Option Taker) (sort : Sort) (field : ℕ) (list : List Item) → opened field list ≡ None → after_one room sort field list ≡ after_name (name_of sort) field list
-unfolding after_one
-no_opening room sort field list e = ap (after_opening room sort field list) e
 
 pub neither : (room : Option Taker) (sort : Sort) (field : ℕ) (list : List Item) → begins_with_ident list ≡ false → opened field list ≡ None → after_one room sort field list ≡ None
 neither room sort field list e none = no_opening room sort field list none ∙ no_name (name_of sort) field list e
@@ -107,10 +72,55 @@ name_place room role field (h.Open at it ∷ rest) = here (nat_eq at field)
     here true = held_none room rest
     here false = refl
 
--- what an error says, of whatever error
-pub if_err : {A E : Type 0} (result : Result A E) (P : E → Type 0) → ((why : E) → P why) → IfErr result P
-if_err (Ok it) P each_one = tt
-if_err (Err why) P each_one = each_one why
+same_string : (role : Role) (head : Head) → holds (AModuleName role) head ≡ holds AString head
+same_string role (h.Str value raw) = refl
+same_string role _ = refl
+
+-- A node, by what was made of its inside and by its end.
+
+pub place_entered : (room less field : ℕ) (list inside : List Item) (head : Head) → opened field list ≡ Some (record { head = head; inside = inside }) → within room ≡ Some (taken less) → (sort : Sort) → taken room sort field list ≡ closed (after_inside (taken less) (holds sort head) inside)
+place_entered room less field list inside head e fits sort =
+    a_node (within room) sort field list (record { head = head; inside = inside }) e
+    ∙ ap (λ o. after_node o (holds sort head) inside) fits
+
+pub place_full : (room field : ℕ) (list inside : List Item) (head : Head) → opened field list ≡ Some (record { head = head; inside = inside }) → within room ≡ None → (sort : Sort) → taken room sort field list ≡ None
+place_full room field list inside head e full sort =
+    a_node (within room) sort field list (record { head = head; inside = inside }) e
+    ∙ ap (λ o. after_node o (holds sort head) inside) full
+
+pub place_unopened : (room field : ℕ) (list : List Item) → opened field list ≡ None → (sort : Sort) → after_name (name_of sort) field list ≡ None → taken room sort field list ≡ None
+place_unopened room field list e sort none = no_opening (within room) sort field list e ∙ none
+
+-- what is made of a node, by what is made of its inside and by its end
+pub place_built : {T : Type 0} (made result : Result T BuildError) (items : ℕ → T → List Item) (field : ℕ) (head : Head) (all within : Option (List Item)) (list inside left rest : List Item) → all ≡ closed within → list ≡ h.Open field head ∷ inside → BuildsNode made items head within inside left → Leaves made result left rest → Builds result (items field) all list rest
+place_built (Ok x) (Ok it) items field head all within list inside left rest is opening of (same, end) =
+    let equal : x ≡ it = cc in
+    (is ∙ (ap closed (of.0) ∙ ap after_close end), opening ∙ subst (λ y. h.Open field head ∷ inside ≡ items field y ++ rest) equal (of.1 field rest end))
+place_built (Err first) (Ok it) items field head all within list inside left rest is opening of (same, end) = absurd (cc)
+place_built (Ok x) (Err why) items field head all within list inside left rest is opening of ends = λ form. is ∙ (ap closed (of.0) ∙ (ends form).0)
+place_built (Err first) (Err why) items field head all within list inside left rest is opening of ends = λ form. is ∙ ap closed (of ((ends form).1))
+
+-- the same of a node that holds nothing
+pub leaf_built : {T : Type 0} (made result : Result T BuildError) (items : ℕ → T → List Item) (field : ℕ) (head : Head) (all : Option (List Item)) (taker : Taker) (kept : Holding) (list inside rest : List Item) → all ≡ closed (after_inside taker kept inside) → list ≡ h.Open field head ∷ inside → BuildsLeaf made items head kept → Leaves made result inside rest → Builds result (items field) all list rest
+leaf_built {T} made result items field head all taker kept list inside rest is opening of ends =
+    place_built made result items field head all (after_inside taker kept inside) list inside inside rest is opening (node made of) ends
+  where
+    node : (made : Result T BuildError) → BuildsLeaf made items head kept → BuildsNode made items head (after_inside taker kept inside) inside inside
+    node (Ok it) so = (ap (λ o. after_inside taker o inside) (so.0), λ at behind e. ap (λ (l : List Item). h.Open at head ∷ l) e ∙ so.1 at behind)
+    node (Err why) so = λ form. ap (λ o. after_inside taker o inside) (so form)
+
+-- where a name may stand, or a string
+pub string_place : (room : Option Taker) (role : Role) (field : ℕ) (list : List Item) → begins_with_ident list ≡ false → after_one room (AModuleName role) field list ≡ after_one room AString field list
+unfolding after_one
+string_place room role field [] e = refl
+string_place room role field (h.Ident at x ctxt found ∷ rest) e = absurd (false≢true (sym e))
+string_place room role field (h.Hole at ∷ rest) e = refl
+string_place room role field (h.Close ∷ rest) e = refl
+string_place room role field (h.Open at it ∷ rest) e = here (nat_eq at field)
+  where
+    here : (found : Bool) → after_opening room (AModuleName role) field (h.Open at it ∷ rest) (cond found (Some (record { head = it; inside = rest })) None) ≡ after_opening room AString field (h.Open at it ∷ rest) (cond found (Some (record { head = it; inside = rest })) None)
+    here true = ap (λ o. after_node room o rest) (same_string role it)
+    here false = refl
 
 -- The elements of a loop.
 
@@ -170,13 +180,9 @@ pub ruleset parsing = (
   common_steps,
   within-more,
   within-none,
-  place_done,
+  place_entered,
   place_full,
-  place_unfinished,
-  place_unclosed,
-  leaf_done,
-  leaf_refused,
-  leaf_unclosed,
+  place_unopened,
   an_ident,
   neither,
   nothing_opened,
@@ -200,13 +206,6 @@ pub ruleset building = (
   steps,
   within-more,
   within-none,
-  place_done,
-  place_full,
-  place_unfinished,
-  place_unclosed,
-  leaf_done,
-  leaf_refused,
-  leaf_unclosed,
   an_ident,
   neither,
   nothing_opened,

@@ -1,12 +1,14 @@
 //! What is left of a list, and the tree that it gives.
 
-ghost use Rattle.std.specs.Prelude.{◌≡◌, ◌+◌, ◌∷◌, [], map, length, Option, Some, None, ◌↔◌, IfOk, IfErr, IsTrue, OnErr};
+ghost use Rattle.std.specs.Prelude.{◌≡◌, ◌+◌, ◌∷◌, [], map, length, Option, Some, None, Ok, Err, ◌↔◌, MatchResult, IfOk, IfErr, IsTrue, OnErr};
 ghost use Rattle.bundle_syntax.specs.Item.{head_of, item_of, Close, Hole, Ident, Open};
 ghost use Rattle.std.specs.List.{flat_map};
 ghost use Rattle.bundle_tree_listed.specs.Tree.{key_value_prop_items, module_items};
 ghost use Rattle.bundle_tree_parse.specs.declared.build.BuildError.TheVariants.{Form};
 ghost use Rattle.bundle_tree_parse.specs.Refused.{IsListOfNoModule, IsListOfNoProperties};
-ghost use Rattle.bundle_tree_parse.specs.Parse.{after_close, after_hole, after_ident, begins_in, begins_with_hole, begins_with_ident, opened, taken, within};
+ghost use Rattle.bundle_tree_parse.specs.Sorts.{Sort, holds, name_of};
+ghost use Rattle.bundle_tree_parse.specs.Built.{Leaves};
+ghost use Rattle.bundle_tree_parse.specs.Parse.{after_close, after_inside, after_name, closed, after_hole, after_ident, begins_in, begins_with_hole, begins_with_ident, opened, taken, within};
 
 use bundle_syntax::{Node, Piece, Role};
 use bundle_tree_ast::{KeyValueProp, Module};
@@ -145,8 +147,8 @@ impl<'p, 'a> Builder<'p, 'a> {
         }
     }
 
-    /// The node that begins next in this field.
-    pub(crate) fn open(&mut self, field: u8) -> Result<Node<'a>, BuildError>
+    // The node that begins next in this field.
+    fn open(&mut self, field: u8) -> Result<Node<'a>, BuildError>
         ensures item { IfOk result (λ node. self.old ≡ Open field (head_of node) ∷ self.new) }
         ensures taken { IfOk result (λ node.
             opened field self.old ≡ Some (record { head = head_of node; inside = self.new })) }
@@ -158,7 +160,7 @@ impl<'p, 'a> Builder<'p, 'a> {
         }
     }
 
-    pub(crate) fn close(&mut self) -> Result<(), BuildError>
+    fn close(&mut self) -> Result<(), BuildError>
         ensures taken { IfOk result (λ done. self.old ≡ Close ∷ self.new) }
         ensures refused { OnErr result (after_close self.old ≡ None) }
     {
@@ -166,6 +168,44 @@ impl<'p, 'a> Builder<'p, 'a> {
             Piece::Close => Ok(()),
             _ => Err(BuildError::Form),
         }
+    }
+
+    /// The node that begins next in this field, and the room inside.
+    #[tactic(auto, using(crate::proofs::Parsing::parsing))]
+    pub(crate) fn enter(&mut self, room: usize, field: u8) -> Result<(Node<'a>, usize), BuildError>
+        ensures item { IfOk result (λ it. self.old ≡ Open field (head_of it.0) ∷ self.new) }
+        ensures less { IfOk result (λ it. it.1 + 1 ≡ room) }
+        ensures taken { IfOk result (λ it. (sort : Sort) →
+            taken room sort field self.old ≡
+            closed (after_inside (taken it.1) (holds sort (head_of it.0)) self.new)) }
+        ensures refused { OnErr result ((sort : Sort) →
+            after_name (name_of sort) field self.old ≡ None →
+            taken room sort field self.old ≡ None) }
+    {
+        let node = self.open(field)?;
+        let less = inside(room)?;
+        Ok((node, less))
+    }
+
+    /// What was made of the inside of a node, where the node ends there.
+    #[tactic(auto, using(crate::proofs::Parsing::parsing))]
+    pub(crate) fn leave<T: Drop>(&mut self, made: Result<T, BuildError>) -> Result<T, BuildError>
+        ensures { Leaves made result self.old self.new }
+    {
+        let it = made?;
+        self.close()?;
+        Ok(it)
+    }
+
+    /// What was made, in a box.
+    #[tactic(auto, using(crate::proofs::Parsing::parsing))]
+    pub(crate) fn boxed<T: Drop>(&self, made: Result<T, BuildError>) -> Result<Box<T>, BuildError>
+        ensures { MatchResult result
+            (λ it. made ≡ Ok it.value)
+            (λ why. why ≡ Form → made ≡ Err Form) }
+    {
+        let it = made?;
+        Ok(Box::new(self.alloc, it)?)
     }
 
     pub(crate) fn hole(&mut self, field: u8) -> Result<(), BuildError>

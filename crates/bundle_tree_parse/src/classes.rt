@@ -1,13 +1,14 @@
 //! Functions and classes (ECMA-262, 15).
 
-ghost use Rattle.std.specs.Prelude.{◌≡◌, ◌∷◌, ◌++◌, ℕ, List, Some, None, IfOk, IfErr, length};
-ghost use Rattle.bundle_syntax.specs.Item.{head_of, Item, Open, Close};
+ghost use Rattle.std.specs.Prelude.{length};
+ghost use Rattle.bundle_syntax.specs.Item.{head_of};
 ghost use Rattle.bundle_tree_parse.specs.declared.build.BuildError.TheVariants.{Form};
 ghost use Rattle.bundle_tree_listed.specs.Tree.{class_items, class_member_items, each_class_member_items, each_param_items, function_items, param_items};
+ghost use Rattle.bundle_tree_parse.specs.Built.{Builds, BuildsNode};
 ghost use Rattle.bundle_tree_parse.specs.Sorts.{AFunction, AParameter, AClass, AClassMember, AMethod, AField, holds};
 ghost use Rattle.bundle_tree_parse.specs.Parse.{after_each, after_inside, taken};
 
-use crate::build::{BuildError, Builder, inside};
+use crate::build::{BuildError, Builder};
 use bundle_syntax::{Node, Role};
 use bundle_tree_ast::{Class, ClassMember, Function, Param};
 
@@ -15,27 +16,20 @@ impl<'p, 'a> Builder<'p, 'a> {
     #[cycle(build)]
     #[tactic(auto, using(crate::proofs::Parsing::building))]
     pub(crate) fn function(&mut self, room: usize, field: u8) -> Result<Function, BuildError>
-        ensures taken { IfOk result (λ made. taken room AFunction field self.old ≡ Some self.new) }
-        ensures made { IfOk result (λ made. self.old ≡ function_items field made ++ self.new) }
-        ensures refused { IfErr result (λ why.
-            why ≡ Form → taken room AFunction field self.old ≡ None) }
+        ensures { Builds result (function_items field)
+            (taken room AFunction field self.old) self.old self.new }
     {
-        let node = self.open(field)?;
-        let less = inside(room)?;
-        let it = self.function_of(less, node)?;
-        self.close()?;
-        Ok(it)
+        let (node, room) = self.enter(room, field)?;
+        let it = self.function_of(room, node);
+        self.leave(it)
     }
 
     #[cycle(build)]
     #[tactic(auto, using(crate::proofs::Parsing::building))]
     fn function_of(&mut self, room: usize, node: Node<'a>) -> Result<Function, BuildError>
-        ensures taken { IfOk result (λ made.
-            after_inside (taken room) (holds AFunction (head_of node.entry)) self.old ≡ Some self.new) }
-        ensures made { IfOk result (λ made. (field : ℕ) (rest : List Item) →
-            self.new ≡ Close ∷ rest → Open field (head_of node.entry) ∷ self.old ≡ function_items field made ++ rest) }
-        ensures refused { IfErr result (λ why.
-            why ≡ Form → after_inside (taken room) (holds AFunction (head_of node.entry)) self.old ≡ None) }
+        ensures { BuildsNode result function_items (head_of node.entry)
+            (after_inside (taken room) (holds AFunction (head_of node.entry)) self.old)
+            self.old self.new }
     {
         match node {
             Node::Function {
@@ -58,11 +52,9 @@ impl<'p, 'a> Builder<'p, 'a> {
     #[cycle(build)]
     #[tactic(auto, using(crate::proofs::Parsing::building))]
     fn each_param(&mut self, room: usize, field: u8) -> Result<Vec<Param>, BuildError>
-        ensures taken { IfOk result (λ made.
-            after_each (taken room AParameter field) field (length self.old) self.old ≡ Some self.new) }
-        ensures made { IfOk result (λ made. self.old ≡ each_param_items field made ++ self.new) }
-        ensures refused { IfErr result (λ why.
-            why ≡ Form → after_each (taken room AParameter field) field (length self.old) self.old ≡ None) }
+        ensures { Builds result (each_param_items field)
+            (after_each (taken room AParameter field) field (length self.old) self.old)
+            self.old self.new }
     {
         let mut list = Vec::new(self.alloc);
         let most = self.most();
@@ -80,27 +72,20 @@ impl<'p, 'a> Builder<'p, 'a> {
     #[cycle(build)]
     #[tactic(auto, using(crate::proofs::Parsing::building))]
     fn param(&mut self, room: usize, field: u8) -> Result<Param, BuildError>
-        ensures taken { IfOk result (λ made. taken room AParameter field self.old ≡ Some self.new) }
-        ensures made { IfOk result (λ made. self.old ≡ param_items field made ++ self.new) }
-        ensures refused { IfErr result (λ why.
-            why ≡ Form → taken room AParameter field self.old ≡ None) }
+        ensures { Builds result (param_items field)
+            (taken room AParameter field self.old) self.old self.new }
     {
-        let node = self.open(field)?;
-        let less = inside(room)?;
-        let it = self.param_of(less, node)?;
-        self.close()?;
-        Ok(it)
+        let (node, room) = self.enter(room, field)?;
+        let it = self.param_of(room, node);
+        self.leave(it)
     }
 
     #[cycle(build)]
     #[tactic(auto, using(crate::proofs::Parsing::building))]
     fn param_of(&mut self, room: usize, node: Node<'a>) -> Result<Param, BuildError>
-        ensures taken { IfOk result (λ made.
-            after_inside (taken room) (holds AParameter (head_of node.entry)) self.old ≡ Some self.new) }
-        ensures made { IfOk result (λ made. (field : ℕ) (rest : List Item) →
-            self.new ≡ Close ∷ rest → Open field (head_of node.entry) ∷ self.old ≡ param_items field made ++ rest) }
-        ensures refused { IfErr result (λ why.
-            why ≡ Form → after_inside (taken room) (holds AParameter (head_of node.entry)) self.old ≡ None) }
+        ensures { BuildsNode result param_items (head_of node.entry)
+            (after_inside (taken room) (holds AParameter (head_of node.entry)) self.old)
+            self.old self.new }
     {
         match node {
             Node::Param => {
@@ -114,27 +99,20 @@ impl<'p, 'a> Builder<'p, 'a> {
     #[cycle(build)]
     #[tactic(auto, using(crate::proofs::Parsing::building))]
     pub(crate) fn class(&mut self, room: usize, field: u8) -> Result<Class, BuildError>
-        ensures taken { IfOk result (λ made. taken room AClass field self.old ≡ Some self.new) }
-        ensures made { IfOk result (λ made. self.old ≡ class_items field made ++ self.new) }
-        ensures refused { IfErr result (λ why.
-            why ≡ Form → taken room AClass field self.old ≡ None) }
+        ensures { Builds result (class_items field)
+            (taken room AClass field self.old) self.old self.new }
     {
-        let node = self.open(field)?;
-        let less = inside(room)?;
-        let it = self.class_of(less, node)?;
-        self.close()?;
-        Ok(it)
+        let (node, room) = self.enter(room, field)?;
+        let it = self.class_of(room, node);
+        self.leave(it)
     }
 
     #[cycle(build)]
     #[tactic(auto, using(crate::proofs::Parsing::building))]
     fn class_of(&mut self, room: usize, node: Node<'a>) -> Result<Class, BuildError>
-        ensures taken { IfOk result (λ made.
-            after_inside (taken room) (holds AClass (head_of node.entry)) self.old ≡ Some self.new) }
-        ensures made { IfOk result (λ made. (field : ℕ) (rest : List Item) →
-            self.new ≡ Close ∷ rest → Open field (head_of node.entry) ∷ self.old ≡ class_items field made ++ rest) }
-        ensures refused { IfErr result (λ why.
-            why ≡ Form → after_inside (taken room) (holds AClass (head_of node.entry)) self.old ≡ None) }
+        ensures { BuildsNode result class_items (head_of node.entry)
+            (after_inside (taken room) (holds AClass (head_of node.entry)) self.old)
+            self.old self.new }
     {
         match node {
             Node::Class => {
@@ -149,12 +127,9 @@ impl<'p, 'a> Builder<'p, 'a> {
     #[cycle(build)]
     #[tactic(auto, using(crate::proofs::Parsing::building))]
     fn each_class_member(&mut self, room: usize, field: u8) -> Result<Vec<ClassMember>, BuildError>
-        ensures taken { IfOk result (λ made.
-            after_each (taken room AClassMember field) field (length self.old) self.old ≡ Some self.new) }
-        ensures made { IfOk result (λ made.
-            self.old ≡ each_class_member_items field made ++ self.new) }
-        ensures refused { IfErr result (λ why.
-            why ≡ Form → after_each (taken room AClassMember field) field (length self.old) self.old ≡ None) }
+        ensures { Builds result (each_class_member_items field)
+            (after_each (taken room AClassMember field) field (length self.old) self.old)
+            self.old self.new }
     {
         let mut list = Vec::new(self.alloc);
         let most = self.most();
@@ -172,28 +147,20 @@ impl<'p, 'a> Builder<'p, 'a> {
     #[cycle(build)]
     #[tactic(auto, using(crate::proofs::Parsing::building))]
     fn class_member(&mut self, room: usize, field: u8) -> Result<ClassMember, BuildError>
-        ensures taken { IfOk result (λ made.
-            taken room AClassMember field self.old ≡ Some self.new) }
-        ensures made { IfOk result (λ made. self.old ≡ class_member_items field made ++ self.new) }
-        ensures refused { IfErr result (λ why.
-            why ≡ Form → taken room AClassMember field self.old ≡ None) }
+        ensures { Builds result (class_member_items field)
+            (taken room AClassMember field self.old) self.old self.new }
     {
-        let node = self.open(field)?;
-        let less = inside(room)?;
-        let it = self.class_member_of(less, node)?;
-        self.close()?;
-        Ok(it)
+        let (node, room) = self.enter(room, field)?;
+        let it = self.class_member_of(room, node);
+        self.leave(it)
     }
 
     #[cycle(build)]
     #[tactic(auto, using(crate::proofs::Parsing::building))]
     fn class_member_of(&mut self, room: usize, node: Node<'a>) -> Result<ClassMember, BuildError>
-        ensures taken { IfOk result (λ made.
-            after_inside (taken room) (holds AClassMember (head_of node.entry)) self.old ≡ Some self.new) }
-        ensures made { IfOk result (λ made. (field : ℕ) (rest : List Item) →
-            self.new ≡ Close ∷ rest → Open field (head_of node.entry) ∷ self.old ≡ class_member_items field made ++ rest) }
-        ensures refused { IfErr result (λ why.
-            why ≡ Form → after_inside (taken room) (holds AClassMember (head_of node.entry)) self.old ≡ None) }
+        ensures { BuildsNode result class_member_items (head_of node.entry)
+            (after_inside (taken room) (holds AClassMember (head_of node.entry)) self.old)
+            self.old self.new }
     {
         match node {
             Node::EmptyStmt => Ok(ClassMember::EmptyStmt),
@@ -214,12 +181,9 @@ impl<'p, 'a> Builder<'p, 'a> {
     #[cycle(build)]
     #[tactic(auto, using(crate::proofs::Parsing::building))]
     fn method_of(&mut self, room: usize, node: Node<'a>) -> Result<ClassMember, BuildError>
-        ensures taken { IfOk result (λ made.
-            after_inside (taken room) (holds AMethod (head_of node.entry)) self.old ≡ Some self.new) }
-        ensures made { IfOk result (λ made. (field : ℕ) (rest : List Item) →
-            self.new ≡ Close ∷ rest → Open field (head_of node.entry) ∷ self.old ≡ class_member_items field made ++ rest) }
-        ensures refused { IfErr result (λ why.
-            why ≡ Form → after_inside (taken room) (holds AMethod (head_of node.entry)) self.old ≡ None) }
+        ensures { BuildsNode result class_member_items (head_of node.entry)
+            (after_inside (taken room) (holds AMethod (head_of node.entry)) self.old)
+            self.old self.new }
     {
         match node {
             Node::ClassMethod { kind, is_static } => {
@@ -249,12 +213,9 @@ impl<'p, 'a> Builder<'p, 'a> {
     #[cycle(build)]
     #[tactic(auto, using(crate::proofs::Parsing::building))]
     fn prop_member_of(&mut self, room: usize, node: Node<'a>) -> Result<ClassMember, BuildError>
-        ensures taken { IfOk result (λ made.
-            after_inside (taken room) (holds AField (head_of node.entry)) self.old ≡ Some self.new) }
-        ensures made { IfOk result (λ made. (field : ℕ) (rest : List Item) →
-            self.new ≡ Close ∷ rest → Open field (head_of node.entry) ∷ self.old ≡ class_member_items field made ++ rest) }
-        ensures refused { IfErr result (λ why.
-            why ≡ Form → after_inside (taken room) (holds AField (head_of node.entry)) self.old ≡ None) }
+        ensures { BuildsNode result class_member_items (head_of node.entry)
+            (after_inside (taken room) (holds AField (head_of node.entry)) self.old)
+            self.old self.new }
     {
         match node {
             Node::ClassProp { is_static } => {

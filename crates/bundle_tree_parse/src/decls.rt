@@ -1,40 +1,34 @@
 //! Declarations (ECMA-262, 14.3, 15.2 and 15.7).
 
-ghost use Rattle.std.specs.Prelude.{◌≡◌, ◌∷◌, ◌++◌, ℕ, List, Some, None, IfOk, IfErr, length};
-ghost use Rattle.bundle_syntax.specs.Item.{head_of, Item, Open, Close};
+ghost use Rattle.std.specs.Prelude.{length};
+ghost use Rattle.bundle_syntax.specs.Item.{head_of};
 ghost use Rattle.bundle_tree_parse.specs.declared.build.BuildError.TheVariants.{Form};
 ghost use Rattle.bundle_tree_listed.specs.Tree.{decl_items, each_var_declarator_items, var_decl_items, var_declarator_items};
+ghost use Rattle.bundle_tree_parse.specs.Built.{Builds, BuildsNode};
 ghost use Rattle.bundle_tree_parse.specs.Sorts.{ADecl, AVarDecl, ADeclarator, holds};
 ghost use Rattle.bundle_tree_parse.specs.Parse.{after_each, after_inside, taken};
 
-use crate::build::{BuildError, Builder, inside};
+use crate::build::{BuildError, Builder};
 use bundle_syntax::{Node, Role};
 use bundle_tree_ast::{Decl, VarDecl, VarDeclarator};
 
 impl<'p, 'a> Builder<'p, 'a> {
     #[tactic(auto, using(crate::proofs::Parsing::building))]
     pub(crate) fn decl(&mut self, room: usize, field: u8) -> Result<Decl, BuildError>
-        ensures taken { IfOk result (λ made. taken room ADecl field self.old ≡ Some self.new) }
-        ensures made { IfOk result (λ made. self.old ≡ decl_items field made ++ self.new) }
-        ensures refused { IfErr result (λ why.
-            why ≡ Form → taken room ADecl field self.old ≡ None) }
+        ensures { Builds result (decl_items field)
+            (taken room ADecl field self.old) self.old self.new }
     {
-        let node = self.open(field)?;
-        let less = inside(room)?;
-        let it = self.decl_of(less, node)?;
-        self.close()?;
-        Ok(it)
+        let (node, room) = self.enter(room, field)?;
+        let it = self.decl_of(room, node);
+        self.leave(it)
     }
 
     #[cycle(build)]
     #[tactic(auto, using(crate::proofs::Parsing::building))]
     pub(crate) fn decl_of(&mut self, room: usize, node: Node<'a>) -> Result<Decl, BuildError>
-        ensures taken { IfOk result (λ made.
-            after_inside (taken room) (holds ADecl (head_of node.entry)) self.old ≡ Some self.new) }
-        ensures made { IfOk result (λ made. (field : ℕ) (rest : List Item) →
-            self.new ≡ Close ∷ rest → Open field (head_of node.entry) ∷ self.old ≡ decl_items field made ++ rest) }
-        ensures refused { IfErr result (λ why.
-            why ≡ Form → after_inside (taken room) (holds ADecl (head_of node.entry)) self.old ≡ None) }
+        ensures { BuildsNode result decl_items (head_of node.entry)
+            (after_inside (taken room) (holds ADecl (head_of node.entry)) self.old)
+            self.old self.new }
     {
         match node {
             Node::ClassDecl => {
@@ -54,12 +48,9 @@ impl<'p, 'a> Builder<'p, 'a> {
     #[cycle(build)]
     #[tactic(auto, using(crate::proofs::Parsing::building))]
     pub(crate) fn var_decl_of(&mut self, room: usize, node: Node<'a>) -> Result<VarDecl, BuildError>
-        ensures taken { IfOk result (λ made.
-            after_inside (taken room) (holds AVarDecl (head_of node.entry)) self.old ≡ Some self.new) }
-        ensures made { IfOk result (λ made. (field : ℕ) (rest : List Item) →
-            self.new ≡ Close ∷ rest → Open field (head_of node.entry) ∷ self.old ≡ var_decl_items field made ++ rest) }
-        ensures refused { IfErr result (λ why.
-            why ≡ Form → after_inside (taken room) (holds AVarDecl (head_of node.entry)) self.old ≡ None) }
+        ensures { BuildsNode result var_decl_items (head_of node.entry)
+            (after_inside (taken room) (holds AVarDecl (head_of node.entry)) self.old)
+            self.old self.new }
     {
         match node {
             Node::VarDecl { kind, meta } => {
@@ -81,12 +72,9 @@ impl<'p, 'a> Builder<'p, 'a> {
         room: usize,
         field: u8,
     ) -> Result<Vec<VarDeclarator>, BuildError>
-        ensures taken { IfOk result (λ made.
-            after_each (taken room ADeclarator field) field (length self.old) self.old ≡ Some self.new) }
-        ensures made { IfOk result (λ made.
-            self.old ≡ each_var_declarator_items field made ++ self.new) }
-        ensures refused { IfErr result (λ why.
-            why ≡ Form → after_each (taken room ADeclarator field) field (length self.old) self.old ≡ None) }
+        ensures { Builds result (each_var_declarator_items field)
+            (after_each (taken room ADeclarator field) field (length self.old) self.old)
+            self.old self.new }
     {
         let mut list = Vec::new(self.alloc);
         let most = self.most();
@@ -104,18 +92,12 @@ impl<'p, 'a> Builder<'p, 'a> {
     #[cycle(build)]
     #[tactic(auto, using(crate::proofs::Parsing::building))]
     fn var_declarator(&mut self, room: usize, field: u8) -> Result<VarDeclarator, BuildError>
-        ensures taken { IfOk result (λ made.
-            taken room ADeclarator field self.old ≡ Some self.new) }
-        ensures made { IfOk result (λ made.
-            self.old ≡ var_declarator_items field made ++ self.new) }
-        ensures refused { IfErr result (λ why.
-            why ≡ Form → taken room ADeclarator field self.old ≡ None) }
+        ensures { Builds result (var_declarator_items field)
+            (taken room ADeclarator field self.old) self.old self.new }
     {
-        let node = self.open(field)?;
-        let less = inside(room)?;
-        let it = self.var_declarator_of(less, node)?;
-        self.close()?;
-        Ok(it)
+        let (node, room) = self.enter(room, field)?;
+        let it = self.var_declarator_of(room, node);
+        self.leave(it)
     }
 
     #[cycle(build)]
@@ -125,12 +107,9 @@ impl<'p, 'a> Builder<'p, 'a> {
         room: usize,
         node: Node<'a>,
     ) -> Result<VarDeclarator, BuildError>
-        ensures taken { IfOk result (λ made.
-            after_inside (taken room) (holds ADeclarator (head_of node.entry)) self.old ≡ Some self.new) }
-        ensures made { IfOk result (λ made. (field : ℕ) (rest : List Item) →
-            self.new ≡ Close ∷ rest → Open field (head_of node.entry) ∷ self.old ≡ var_declarator_items field made ++ rest) }
-        ensures refused { IfErr result (λ why.
-            why ≡ Form → after_inside (taken room) (holds ADeclarator (head_of node.entry)) self.old ≡ None) }
+        ensures { BuildsNode result var_declarator_items (head_of node.entry)
+            (after_inside (taken room) (holds ADeclarator (head_of node.entry)) self.old)
+            self.old self.new }
     {
         match node {
             Node::VarDeclarator => {

@@ -1,15 +1,16 @@
 //! Expressions (ECMA-262, 13).
 
-ghost use Rattle.std.specs.Prelude.{◌≡◌, ◌∷◌, ◌++◌, ℕ, List, Some, None, IfOk, IfErr, length};
+ghost use Rattle.std.specs.Prelude.{◌≡◌, Some, None, IfOk, length};
 ghost use Rattle.bundle_syntax.specs.declared.piece.Role.TheVariants.{Reference};
-ghost use Rattle.bundle_syntax.specs.Item.{head_of, Item, Open, Close};
+ghost use Rattle.bundle_syntax.specs.Item.{head_of};
 ghost use Rattle.bundle_tree_parse.specs.declared.build.BuildError.TheVariants.{Form};
 ghost use Rattle.bundle_tree_listed.specs.Tree.{arrow_body_items, callee_items, each_expr_items, each_expr_or_spread_items, each_option_expr_or_spread_items, expr_items, expr_or_spread_items, expr_or_spread_place_items, is_given, member_expr_items, opt_call_items, opt_chain_base_items, option_boxed_expr_items, option_each_expr_or_spread_items, option_expr_items, paren_expr_items, super_prop_expr_items, tpl_items};
+ghost use Rattle.bundle_tree_parse.specs.Built.{Builds, BuildsNode};
 ghost use Rattle.bundle_tree_parse.specs.Sorts.{AnExpr, AFunctionExpr, ACompoundExpr, ACallExpr, AnArgument, ACallee, AnArrowBody, AMemberExpr, ASuperMember, AParen, ATemplate, ALink, AnOptCall, holds, arguments};
 ghost use Rattle.bundle_tree_parse.specs.Parse.{after_ident, after_maybe, after_each, after_place, after_slots, after_inside, taken};
 ghost use Rattle.bundle_tree_ast.specs.declared.class.ClassMember.TheBlock.{back-Expr-NewExpr-1};
 
-use crate::build::{BuildError, Builder, inside};
+use crate::build::{BuildError, Builder};
 use bundle_syntax::{Node, Role};
 use bundle_tree_ast::{
     ArrowBody, Callee, Expr, ExprOrSpread, MemberExpr, OptCall, OptChainBase, ParenExpr,
@@ -20,30 +21,23 @@ impl<'p, 'a> Builder<'p, 'a> {
     #[cycle(build)]
     #[tactic(auto, using(crate::proofs::Parsing::building))]
     pub(crate) fn expr(&mut self, room: usize, field: u8) -> Result<Expr, BuildError>
-        ensures taken { IfOk result (λ made. taken room AnExpr field self.old ≡ Some self.new) }
-        ensures made { IfOk result (λ made. self.old ≡ expr_items field made ++ self.new) }
-        ensures refused { IfErr result (λ why.
-            why ≡ Form → taken room AnExpr field self.old ≡ None) }
+        ensures { Builds result (expr_items field)
+            (taken room AnExpr field self.old) self.old self.new }
     {
         if self.is_ident() {
             return Ok(Expr::Ident(self.ident(field, Role::Reference)?));
         }
-        let node = self.open(field)?;
-        let less = inside(room)?;
-        let it = self.expr_of(less, node)?;
-        self.close()?;
-        Ok(it)
+        let (node, room) = self.enter(room, field)?;
+        let it = self.expr_of(room, node);
+        self.leave(it)
     }
 
     #[cycle(build)]
     #[tactic(auto, using(crate::proofs::Parsing::building))]
     pub(crate) fn expr_of(&mut self, room: usize, node: Node<'a>) -> Result<Expr, BuildError>
-        ensures taken { IfOk result (λ made.
-            after_inside (taken room) (holds AnExpr (head_of node.entry)) self.old ≡ Some self.new) }
-        ensures made { IfOk result (λ made. (field : ℕ) (rest : List Item) →
-            self.new ≡ Close ∷ rest → Open field (head_of node.entry) ∷ self.old ≡ expr_items field made ++ rest) }
-        ensures refused { IfErr result (λ why.
-            why ≡ Form → after_inside (taken room) (holds AnExpr (head_of node.entry)) self.old ≡ None) }
+        ensures { BuildsNode result expr_items (head_of node.entry)
+            (after_inside (taken room) (holds AnExpr (head_of node.entry)) self.old)
+            self.old self.new }
     {
         match node {
             Node::Str { .. }
@@ -74,12 +68,9 @@ impl<'p, 'a> Builder<'p, 'a> {
     #[cycle(build)]
     #[tactic(auto, using(crate::proofs::Parsing::building))]
     fn function_expr_of(&mut self, room: usize, node: Node<'a>) -> Result<Expr, BuildError>
-        ensures taken { IfOk result (λ made.
-            after_inside (taken room) (holds AFunctionExpr (head_of node.entry)) self.old ≡ Some self.new) }
-        ensures made { IfOk result (λ made. (field : ℕ) (rest : List Item) →
-            self.new ≡ Close ∷ rest → Open field (head_of node.entry) ∷ self.old ≡ expr_items field made ++ rest) }
-        ensures refused { IfErr result (λ why.
-            why ≡ Form → after_inside (taken room) (holds AFunctionExpr (head_of node.entry)) self.old ≡ None) }
+        ensures { BuildsNode result expr_items (head_of node.entry)
+            (after_inside (taken room) (holds AFunctionExpr (head_of node.entry)) self.old)
+            self.old self.new }
     {
         match node {
             Node::FnExpr => {
@@ -108,12 +99,9 @@ impl<'p, 'a> Builder<'p, 'a> {
     #[cycle(build)]
     #[tactic(auto, using(crate::proofs::Parsing::building))]
     fn compound_expr_of(&mut self, room: usize, node: Node<'a>) -> Result<Expr, BuildError>
-        ensures taken { IfOk result (λ made.
-            after_inside (taken room) (holds ACompoundExpr (head_of node.entry)) self.old ≡ Some self.new) }
-        ensures made { IfOk result (λ made. (field : ℕ) (rest : List Item) →
-            self.new ≡ Close ∷ rest → Open field (head_of node.entry) ∷ self.old ≡ expr_items field made ++ rest) }
-        ensures refused { IfErr result (λ why.
-            why ≡ Form → after_inside (taken room) (holds ACompoundExpr (head_of node.entry)) self.old ≡ None) }
+        ensures { BuildsNode result expr_items (head_of node.entry)
+            (after_inside (taken room) (holds ACompoundExpr (head_of node.entry)) self.old)
+            self.old self.new }
     {
         match node {
             Node::ArrayLit => {
@@ -140,12 +128,9 @@ impl<'p, 'a> Builder<'p, 'a> {
     #[cycle(build)]
     #[tactic(auto, using(crate::proofs::Parsing::building))]
     fn call_expr_of(&mut self, room: usize, node: Node<'a>) -> Result<Expr, BuildError>
-        ensures taken { IfOk result (λ made.
-            after_inside (taken room) (holds ACallExpr (head_of node.entry)) self.old ≡ Some self.new) }
-        ensures made { IfOk result (λ made. (field : ℕ) (rest : List Item) →
-            self.new ≡ Close ∷ rest → Open field (head_of node.entry) ∷ self.old ≡ expr_items field made ++ rest) }
-        ensures refused { IfErr result (λ why.
-            why ≡ Form → after_inside (taken room) (holds ACallExpr (head_of node.entry)) self.old ≡ None) }
+        ensures { BuildsNode result expr_items (head_of node.entry)
+            (after_inside (taken room) (holds ACallExpr (head_of node.entry)) self.old)
+            self.old self.new }
     {
         match node {
             Node::CallExpr => {
@@ -173,13 +158,9 @@ impl<'p, 'a> Builder<'p, 'a> {
         room: usize,
         has_args: bool,
     ) -> Result<Option<Vec<ExprOrSpread>>, BuildError>
-        ensures taken { IfOk result (λ made.
-            after_slots (taken room) (arguments has_args) self.old ≡ Some self.new) }
-        ensures made { IfOk result (λ made.
-            self.old ≡ option_each_expr_or_spread_items 1 made ++ self.new) }
+        ensures built { Builds result (option_each_expr_or_spread_items 1)
+            (after_slots (taken room) (arguments has_args) self.old) self.old self.new }
         ensures given { IfOk result (λ made. is_given (back-Expr-NewExpr-1 made) ≡ has_args) }
-        ensures refused { IfErr result (λ why.
-            why ≡ Form → after_slots (taken room) (arguments has_args) self.old ≡ None) }
     {
         if has_args {
             Ok(Some(self.each_expr_or_spread(room, 1)?))
@@ -191,13 +172,11 @@ impl<'p, 'a> Builder<'p, 'a> {
     #[cycle(build)]
     #[tactic(auto, using(crate::proofs::Parsing::building))]
     pub(crate) fn boxed_expr(&mut self, room: usize, field: u8) -> Result<Box<Expr>, BuildError>
-        ensures taken { IfOk result (λ made. taken room AnExpr field self.old ≡ Some self.new) }
-        ensures made { IfOk result (λ made. self.old ≡ expr_items field made.value ++ self.new) }
-        ensures refused { IfErr result (λ why.
-            why ≡ Form → taken room AnExpr field self.old ≡ None) }
+        ensures { Builds result (λ made. expr_items field made.value)
+            (taken room AnExpr field self.old) self.old self.new }
     {
-        let it = self.expr(room, field)?;
-        Ok(Box::new(self.alloc, it)?)
+        let it = self.expr(room, field);
+        self.boxed(it)
     }
 
     #[cycle(build)]
@@ -207,24 +186,19 @@ impl<'p, 'a> Builder<'p, 'a> {
         room: usize,
         node: Node<'a>,
     ) -> Result<Box<Expr>, BuildError>
-        ensures taken { IfOk result (λ made.
-            after_inside (taken room) (holds AnExpr (head_of node.entry)) self.old ≡ Some self.new) }
-        ensures made { IfOk result (λ made. (field : ℕ) (rest : List Item) →
-            self.new ≡ Close ∷ rest → Open field (head_of node.entry) ∷ self.old ≡ expr_items field made.value ++ rest) }
-        ensures refused { IfErr result (λ why.
-            why ≡ Form → after_inside (taken room) (holds AnExpr (head_of node.entry)) self.old ≡ None) }
+        ensures { BuildsNode result (λ field made. expr_items field made.value) (head_of node.entry)
+            (after_inside (taken room) (holds AnExpr (head_of node.entry)) self.old)
+            self.old self.new }
     {
-        let it = self.expr_of(room, node)?;
-        Ok(Box::new(self.alloc, it)?)
+        let it = self.expr_of(room, node);
+        self.boxed(it)
     }
 
     // A name that stands where an expression does.
     #[tactic(auto, using(crate::proofs::Parsing::building))]
     pub(crate) fn boxed_ident(&mut self, field: u8) -> Result<Box<Expr>, BuildError>
-        ensures taken { IfOk result (λ made. after_ident Reference field self.old ≡ Some self.new) }
-        ensures made { IfOk result (λ made. self.old ≡ expr_items field made.value ++ self.new) }
-        ensures refused { IfErr result (λ why.
-            why ≡ Form → after_ident Reference field self.old ≡ None) }
+        ensures { Builds result (λ made. expr_items field made.value)
+            (after_ident Reference field self.old) self.old self.new }
     {
         let it = self.ident(field, Role::Reference)?;
         Ok(Box::new(self.alloc, Expr::Ident(it))?)
@@ -233,11 +207,8 @@ impl<'p, 'a> Builder<'p, 'a> {
     #[cycle(build)]
     #[tactic(auto, using(crate::proofs::Parsing::building))]
     pub(crate) fn option_expr(&mut self, room: usize, field: u8) -> Result<Option<Expr>, BuildError>
-        ensures taken { IfOk result (λ made.
-            after_maybe (taken room AnExpr field) field self.old ≡ Some self.new) }
-        ensures made { IfOk result (λ made. self.old ≡ option_expr_items field made ++ self.new) }
-        ensures refused { IfErr result (λ why.
-            why ≡ Form → after_maybe (taken room AnExpr field) field self.old ≡ None) }
+        ensures { Builds result (option_expr_items field)
+            (after_maybe (taken room AnExpr field) field self.old) self.old self.new }
     {
         if self.is_in(field) {
             Ok(Some(self.expr(room, field)?))
@@ -253,12 +224,8 @@ impl<'p, 'a> Builder<'p, 'a> {
         room: usize,
         field: u8,
     ) -> Result<Option<Box<Expr>>, BuildError>
-        ensures taken { IfOk result (λ made.
-            after_maybe (taken room AnExpr field) field self.old ≡ Some self.new) }
-        ensures made { IfOk result (λ made.
-            self.old ≡ option_boxed_expr_items field made ++ self.new) }
-        ensures refused { IfErr result (λ why.
-            why ≡ Form → after_maybe (taken room AnExpr field) field self.old ≡ None) }
+        ensures { Builds result (option_boxed_expr_items field)
+            (after_maybe (taken room AnExpr field) field self.old) self.old self.new }
     {
         if self.is_in(field) {
             Ok(Some(self.boxed_expr(room, field)?))
@@ -270,11 +237,9 @@ impl<'p, 'a> Builder<'p, 'a> {
     #[cycle(build)]
     #[tactic(auto, using(crate::proofs::Parsing::building))]
     fn each_expr(&mut self, room: usize, field: u8) -> Result<Vec<Expr>, BuildError>
-        ensures taken { IfOk result (λ made.
-            after_each (taken room AnExpr field) field (length self.old) self.old ≡ Some self.new) }
-        ensures made { IfOk result (λ made. self.old ≡ each_expr_items field made ++ self.new) }
-        ensures refused { IfErr result (λ why.
-            why ≡ Form → after_each (taken room AnExpr field) field (length self.old) self.old ≡ None) }
+        ensures { Builds result (each_expr_items field)
+            (after_each (taken room AnExpr field) field (length self.old) self.old)
+            self.old self.new }
     {
         let mut list = Vec::new(self.alloc);
         let most = self.most();
@@ -292,28 +257,20 @@ impl<'p, 'a> Builder<'p, 'a> {
     #[cycle(build)]
     #[tactic(auto, using(crate::proofs::Parsing::building))]
     fn expr_or_spread(&mut self, room: usize, field: u8) -> Result<ExprOrSpread, BuildError>
-        ensures taken { IfOk result (λ made. taken room AnArgument field self.old ≡ Some self.new) }
-        ensures made { IfOk result (λ made.
-            self.old ≡ expr_or_spread_items field made ++ self.new) }
-        ensures refused { IfErr result (λ why.
-            why ≡ Form → taken room AnArgument field self.old ≡ None) }
+        ensures { Builds result (expr_or_spread_items field)
+            (taken room AnArgument field self.old) self.old self.new }
     {
-        let node = self.open(field)?;
-        let less = inside(room)?;
-        let it = self.expr_or_spread_of(less, node)?;
-        self.close()?;
-        Ok(it)
+        let (node, room) = self.enter(room, field)?;
+        let it = self.expr_or_spread_of(room, node);
+        self.leave(it)
     }
 
     #[cycle(build)]
     #[tactic(auto, using(crate::proofs::Parsing::building))]
     fn expr_or_spread_of(&mut self, room: usize, node: Node<'a>) -> Result<ExprOrSpread, BuildError>
-        ensures taken { IfOk result (λ made.
-            after_inside (taken room) (holds AnArgument (head_of node.entry)) self.old ≡ Some self.new) }
-        ensures made { IfOk result (λ made. (field : ℕ) (rest : List Item) →
-            self.new ≡ Close ∷ rest → Open field (head_of node.entry) ∷ self.old ≡ expr_or_spread_items field made ++ rest) }
-        ensures refused { IfErr result (λ why.
-            why ≡ Form → after_inside (taken room) (holds AnArgument (head_of node.entry)) self.old ≡ None) }
+        ensures { BuildsNode result expr_or_spread_items (head_of node.entry)
+            (after_inside (taken room) (holds AnArgument (head_of node.entry)) self.old)
+            self.old self.new }
     {
         match node {
             Node::ExprOrSpread { spread } => {
@@ -331,12 +288,9 @@ impl<'p, 'a> Builder<'p, 'a> {
         room: usize,
         field: u8,
     ) -> Result<Vec<ExprOrSpread>, BuildError>
-        ensures taken { IfOk result (λ made.
-            after_each (taken room AnArgument field) field (length self.old) self.old ≡ Some self.new) }
-        ensures made { IfOk result (λ made.
-            self.old ≡ each_expr_or_spread_items field made ++ self.new) }
-        ensures refused { IfErr result (λ why.
-            why ≡ Form → after_each (taken room AnArgument field) field (length self.old) self.old ≡ None) }
+        ensures { Builds result (each_expr_or_spread_items field)
+            (after_each (taken room AnArgument field) field (length self.old) self.old)
+            self.old self.new }
     {
         let mut list = Vec::new(self.alloc);
         let most = self.most();
@@ -358,12 +312,8 @@ impl<'p, 'a> Builder<'p, 'a> {
         room: usize,
         field: u8,
     ) -> Result<Option<ExprOrSpread>, BuildError>
-        ensures taken { IfOk result (λ made.
-            after_place (taken room AnArgument field) field self.old ≡ Some self.new) }
-        ensures made { IfOk result (λ made.
-            self.old ≡ expr_or_spread_place_items field made ++ self.new) }
-        ensures refused { IfErr result (λ why.
-            why ≡ Form → after_place (taken room AnArgument field) field self.old ≡ None) }
+        ensures { Builds result (expr_or_spread_place_items field)
+            (after_place (taken room AnArgument field) field self.old) self.old self.new }
     {
         if self.is_hole() {
             self.hole(field)?;
@@ -380,12 +330,10 @@ impl<'p, 'a> Builder<'p, 'a> {
         room: usize,
         field: u8,
     ) -> Result<Vec<Option<ExprOrSpread>>, BuildError>
-        ensures taken { IfOk result (λ made.
-            after_each (after_place (taken room AnArgument field) field) field (length self.old) self.old ≡ Some self.new) }
-        ensures made { IfOk result (λ made.
-            self.old ≡ each_option_expr_or_spread_items field made ++ self.new) }
-        ensures refused { IfErr result (λ why.
-            why ≡ Form → after_each (after_place (taken room AnArgument field) field) field (length self.old) self.old ≡ None) }
+        ensures { Builds result (each_option_expr_or_spread_items field)
+            (after_each (after_place (taken room AnArgument field) field)
+            field (length self.old) self.old)
+            self.old self.new }
     {
         let mut list = Vec::new(self.alloc);
         let most = self.most();
@@ -403,30 +351,23 @@ impl<'p, 'a> Builder<'p, 'a> {
     #[cycle(build)]
     #[tactic(auto, using(crate::proofs::Parsing::building))]
     fn callee(&mut self, room: usize, field: u8) -> Result<Callee, BuildError>
-        ensures taken { IfOk result (λ made. taken room ACallee field self.old ≡ Some self.new) }
-        ensures made { IfOk result (λ made. self.old ≡ callee_items field made ++ self.new) }
-        ensures refused { IfErr result (λ why.
-            why ≡ Form → taken room ACallee field self.old ≡ None) }
+        ensures { Builds result (callee_items field)
+            (taken room ACallee field self.old) self.old self.new }
     {
         if self.is_ident() {
             return Ok(Callee::Expr(self.boxed_ident(field)?));
         }
-        let node = self.open(field)?;
-        let less = inside(room)?;
-        let it = self.callee_of(less, node)?;
-        self.close()?;
-        Ok(it)
+        let (node, room) = self.enter(room, field)?;
+        let it = self.callee_of(room, node);
+        self.leave(it)
     }
 
     #[cycle(build)]
     #[tactic(auto, using(crate::proofs::Parsing::building))]
     fn callee_of(&mut self, room: usize, node: Node<'a>) -> Result<Callee, BuildError>
-        ensures taken { IfOk result (λ made.
-            after_inside (taken room) (holds ACallee (head_of node.entry)) self.old ≡ Some self.new) }
-        ensures made { IfOk result (λ made. (field : ℕ) (rest : List Item) →
-            self.new ≡ Close ∷ rest → Open field (head_of node.entry) ∷ self.old ≡ callee_items field made ++ rest) }
-        ensures refused { IfErr result (λ why.
-            why ≡ Form → after_inside (taken room) (holds ACallee (head_of node.entry)) self.old ≡ None) }
+        ensures { BuildsNode result callee_items (head_of node.entry)
+            (after_inside (taken room) (holds ACallee (head_of node.entry)) self.old)
+            self.old self.new }
     {
         match node {
             Node::Super => Ok(Callee::Super),
@@ -438,31 +379,23 @@ impl<'p, 'a> Builder<'p, 'a> {
     #[cycle(build)]
     #[tactic(auto, using(crate::proofs::Parsing::building))]
     fn arrow_body(&mut self, room: usize, field: u8) -> Result<ArrowBody, BuildError>
-        ensures taken { IfOk result (λ made.
-            taken room AnArrowBody field self.old ≡ Some self.new) }
-        ensures made { IfOk result (λ made. self.old ≡ arrow_body_items field made ++ self.new) }
-        ensures refused { IfErr result (λ why.
-            why ≡ Form → taken room AnArrowBody field self.old ≡ None) }
+        ensures { Builds result (arrow_body_items field)
+            (taken room AnArrowBody field self.old) self.old self.new }
     {
         if self.is_ident() {
             return Ok(ArrowBody::Expr(self.boxed_ident(field)?));
         }
-        let node = self.open(field)?;
-        let less = inside(room)?;
-        let it = self.arrow_body_of(less, node)?;
-        self.close()?;
-        Ok(it)
+        let (node, room) = self.enter(room, field)?;
+        let it = self.arrow_body_of(room, node);
+        self.leave(it)
     }
 
     #[cycle(build)]
     #[tactic(auto, using(crate::proofs::Parsing::building))]
     fn arrow_body_of(&mut self, room: usize, node: Node<'a>) -> Result<ArrowBody, BuildError>
-        ensures taken { IfOk result (λ made.
-            after_inside (taken room) (holds AnArrowBody (head_of node.entry)) self.old ≡ Some self.new) }
-        ensures made { IfOk result (λ made. (field : ℕ) (rest : List Item) →
-            self.new ≡ Close ∷ rest → Open field (head_of node.entry) ∷ self.old ≡ arrow_body_items field made ++ rest) }
-        ensures refused { IfErr result (λ why.
-            why ≡ Form → after_inside (taken room) (holds AnArrowBody (head_of node.entry)) self.old ≡ None) }
+        ensures { BuildsNode result arrow_body_items (head_of node.entry)
+            (after_inside (taken room) (holds AnArrowBody (head_of node.entry)) self.old)
+            self.old self.new }
     {
         match node {
             Node::BlockStmt => Ok(ArrowBody::BlockStmt(self.block_stmt_of(room, node)?)),
@@ -477,12 +410,9 @@ impl<'p, 'a> Builder<'p, 'a> {
         room: usize,
         node: Node<'a>,
     ) -> Result<MemberExpr, BuildError>
-        ensures taken { IfOk result (λ made.
-            after_inside (taken room) (holds AMemberExpr (head_of node.entry)) self.old ≡ Some self.new) }
-        ensures made { IfOk result (λ made. (field : ℕ) (rest : List Item) →
-            self.new ≡ Close ∷ rest → Open field (head_of node.entry) ∷ self.old ≡ member_expr_items field made ++ rest) }
-        ensures refused { IfErr result (λ why.
-            why ≡ Form → after_inside (taken room) (holds AMemberExpr (head_of node.entry)) self.old ≡ None) }
+        ensures { BuildsNode result member_expr_items (head_of node.entry)
+            (after_inside (taken room) (holds AMemberExpr (head_of node.entry)) self.old)
+            self.old self.new }
     {
         match node {
             Node::MemberExpr => {
@@ -501,12 +431,9 @@ impl<'p, 'a> Builder<'p, 'a> {
         room: usize,
         node: Node<'a>,
     ) -> Result<SuperPropExpr, BuildError>
-        ensures taken { IfOk result (λ made.
-            after_inside (taken room) (holds ASuperMember (head_of node.entry)) self.old ≡ Some self.new) }
-        ensures made { IfOk result (λ made. (field : ℕ) (rest : List Item) →
-            self.new ≡ Close ∷ rest → Open field (head_of node.entry) ∷ self.old ≡ super_prop_expr_items field made ++ rest) }
-        ensures refused { IfErr result (λ why.
-            why ≡ Form → after_inside (taken room) (holds ASuperMember (head_of node.entry)) self.old ≡ None) }
+        ensures { BuildsNode result super_prop_expr_items (head_of node.entry)
+            (after_inside (taken room) (holds ASuperMember (head_of node.entry)) self.old)
+            self.old self.new }
     {
         match node {
             Node::SuperPropExpr => {
@@ -524,12 +451,9 @@ impl<'p, 'a> Builder<'p, 'a> {
         room: usize,
         node: Node<'a>,
     ) -> Result<ParenExpr, BuildError>
-        ensures taken { IfOk result (λ made.
-            after_inside (taken room) (holds AParen (head_of node.entry)) self.old ≡ Some self.new) }
-        ensures made { IfOk result (λ made. (field : ℕ) (rest : List Item) →
-            self.new ≡ Close ∷ rest → Open field (head_of node.entry) ∷ self.old ≡ paren_expr_items field made ++ rest) }
-        ensures refused { IfErr result (λ why.
-            why ≡ Form → after_inside (taken room) (holds AParen (head_of node.entry)) self.old ≡ None) }
+        ensures { BuildsNode result paren_expr_items (head_of node.entry)
+            (after_inside (taken room) (holds AParen (head_of node.entry)) self.old)
+            self.old self.new }
     {
         match node {
             Node::ParenExpr => {
@@ -543,27 +467,20 @@ impl<'p, 'a> Builder<'p, 'a> {
     #[cycle(build)]
     #[tactic(auto, using(crate::proofs::Parsing::building))]
     fn tpl(&mut self, room: usize, field: u8) -> Result<Tpl, BuildError>
-        ensures taken { IfOk result (λ made. taken room ATemplate field self.old ≡ Some self.new) }
-        ensures made { IfOk result (λ made. self.old ≡ tpl_items field made ++ self.new) }
-        ensures refused { IfErr result (λ why.
-            why ≡ Form → taken room ATemplate field self.old ≡ None) }
+        ensures { Builds result (tpl_items field)
+            (taken room ATemplate field self.old) self.old self.new }
     {
-        let node = self.open(field)?;
-        let less = inside(room)?;
-        let it = self.tpl_of(less, node)?;
-        self.close()?;
-        Ok(it)
+        let (node, room) = self.enter(room, field)?;
+        let it = self.tpl_of(room, node);
+        self.leave(it)
     }
 
     #[cycle(build)]
     #[tactic(auto, using(crate::proofs::Parsing::building))]
     fn tpl_of(&mut self, room: usize, node: Node<'a>) -> Result<Tpl, BuildError>
-        ensures taken { IfOk result (λ made.
-            after_inside (taken room) (holds ATemplate (head_of node.entry)) self.old ≡ Some self.new) }
-        ensures made { IfOk result (λ made. (field : ℕ) (rest : List Item) →
-            self.new ≡ Close ∷ rest → Open field (head_of node.entry) ∷ self.old ≡ tpl_items field made ++ rest) }
-        ensures refused { IfErr result (λ why.
-            why ≡ Form → after_inside (taken room) (holds ATemplate (head_of node.entry)) self.old ≡ None) }
+        ensures { BuildsNode result tpl_items (head_of node.entry)
+            (after_inside (taken room) (holds ATemplate (head_of node.entry)) self.old)
+            self.old self.new }
     {
         match node {
             Node::Tpl => {
@@ -578,28 +495,20 @@ impl<'p, 'a> Builder<'p, 'a> {
     #[cycle(build)]
     #[tactic(auto, using(crate::proofs::Parsing::building))]
     fn opt_chain_base(&mut self, room: usize, field: u8) -> Result<OptChainBase, BuildError>
-        ensures taken { IfOk result (λ made. taken room ALink field self.old ≡ Some self.new) }
-        ensures made { IfOk result (λ made.
-            self.old ≡ opt_chain_base_items field made ++ self.new) }
-        ensures refused { IfErr result (λ why.
-            why ≡ Form → taken room ALink field self.old ≡ None) }
+        ensures { Builds result (opt_chain_base_items field)
+            (taken room ALink field self.old) self.old self.new }
     {
-        let node = self.open(field)?;
-        let less = inside(room)?;
-        let it = self.opt_chain_base_of(less, node)?;
-        self.close()?;
-        Ok(it)
+        let (node, room) = self.enter(room, field)?;
+        let it = self.opt_chain_base_of(room, node);
+        self.leave(it)
     }
 
     #[cycle(build)]
     #[tactic(auto, using(crate::proofs::Parsing::building))]
     fn opt_chain_base_of(&mut self, room: usize, node: Node<'a>) -> Result<OptChainBase, BuildError>
-        ensures taken { IfOk result (λ made.
-            after_inside (taken room) (holds ALink (head_of node.entry)) self.old ≡ Some self.new) }
-        ensures made { IfOk result (λ made. (field : ℕ) (rest : List Item) →
-            self.new ≡ Close ∷ rest → Open field (head_of node.entry) ∷ self.old ≡ opt_chain_base_items field made ++ rest) }
-        ensures refused { IfErr result (λ why.
-            why ≡ Form → after_inside (taken room) (holds ALink (head_of node.entry)) self.old ≡ None) }
+        ensures { BuildsNode result opt_chain_base_items (head_of node.entry)
+            (after_inside (taken room) (holds ALink (head_of node.entry)) self.old)
+            self.old self.new }
     {
         match node {
             Node::OptCall => Ok(OptChainBase::OptCall(self.opt_call_of(room, node)?)),
@@ -610,12 +519,9 @@ impl<'p, 'a> Builder<'p, 'a> {
     #[cycle(build)]
     #[tactic(auto, using(crate::proofs::Parsing::building))]
     fn opt_call_of(&mut self, room: usize, node: Node<'a>) -> Result<OptCall, BuildError>
-        ensures taken { IfOk result (λ made.
-            after_inside (taken room) (holds AnOptCall (head_of node.entry)) self.old ≡ Some self.new) }
-        ensures made { IfOk result (λ made. (field : ℕ) (rest : List Item) →
-            self.new ≡ Close ∷ rest → Open field (head_of node.entry) ∷ self.old ≡ opt_call_items field made ++ rest) }
-        ensures refused { IfErr result (λ why.
-            why ≡ Form → after_inside (taken room) (holds AnOptCall (head_of node.entry)) self.old ≡ None) }
+        ensures { BuildsNode result opt_call_items (head_of node.entry)
+            (after_inside (taken room) (holds AnOptCall (head_of node.entry)) self.old)
+            self.old self.new }
     {
         match node {
             Node::OptCall => {

@@ -1,15 +1,16 @@
 //! Modules, imports and exports (ECMA-262, 16.2).
 
-ghost use Rattle.std.specs.Prelude.{◌+◌, ◌-◌, ◌^◌, ◌<◌, ◌≤◌, ◌≡◌, ◌∷◌, ◌++◌, ℕ, List, Some, None, IfOk, IfErr, length, zero};
+ghost use Rattle.std.specs.Prelude.{◌+◌, ◌-◌, ◌^◌, ◌<◌, ◌≤◌, ◌≡◌, Some, None, length, zero};
 ghost use Rattle.std.specs.List.{flat_map};
-ghost use Rattle.bundle_syntax.specs.Item.{item_of, head_of, Item, Open, Close, NamedExport};
+ghost use Rattle.bundle_syntax.specs.Item.{item_of, head_of, Open, Close, NamedExport};
 ghost use Rattle.bundle_tree_parse.specs.declared.build.BuildError.TheVariants.{Form};
 ghost use Rattle.bundle_tree_listed.specs.Tree.{default_decl_items, export_specifier_items, import_specifier_items, module_decl_items, module_export_name_items, module_item_items, module_items, option_items};
+ghost use Rattle.bundle_tree_parse.specs.Built.{Builds, BuildsNode};
 ghost use Rattle.bundle_tree_parse.specs.Sorts.{AModule, AnItem, AModuleDecl, AnImport, AnExport, AModuleName, ADefault, Exports, holds};
 ghost use Rattle.bundle_tree_parse.specs.Parse.{after_maybe, after_each, after_inside, taken};
 ghost use Rattle.bundle_tree_parse.specs.Parse as parse;
 
-use crate::build::{BuildError, Builder, inside};
+use crate::build::{BuildError, Builder};
 use bundle_syntax::{Node, Piece, Role};
 use bundle_tree_ast::{
     DefaultDecl, ExportMetadata, ExportSpecifier, ImportSpecifier, Module, ModuleDecl,
@@ -19,25 +20,19 @@ use bundle_tree_ast::{
 impl<'p, 'a> Builder<'p, 'a> {
     #[tactic(auto, using(crate::proofs::Parsing::building))]
     pub(crate) fn module(&mut self, room: usize) -> Result<Module, BuildError>
-        ensures taken { IfOk result (λ made. taken room AModule 0 self.old ≡ Some self.new) }
-        ensures made { IfOk result (λ made. self.old ≡ module_items 0 made ++ self.new) }
-        ensures refused { IfErr result (λ why. why ≡ Form → taken room AModule 0 self.old ≡ None) }
+        ensures { Builds result (module_items 0)
+            (taken room AModule 0 self.old) self.old self.new }
     {
-        let node = self.open(0)?;
-        let less = inside(room)?;
-        let it = self.module_of(less, node)?;
-        self.close()?;
-        Ok(it)
+        let (node, room) = self.enter(room, 0)?;
+        let it = self.module_of(room, node);
+        self.leave(it)
     }
 
     #[tactic(auto, using(crate::proofs::Parsing::building))]
     fn module_of(&mut self, room: usize, node: Node<'a>) -> Result<Module, BuildError>
-        ensures taken { IfOk result (λ made.
-            after_inside (taken room) (holds AModule (head_of node.entry)) self.old ≡ Some self.new) }
-        ensures made { IfOk result (λ made. (field : ℕ) (rest : List Item) →
-            self.new ≡ Close ∷ rest → Open field (head_of node.entry) ∷ self.old ≡ module_items field made ++ rest) }
-        ensures refused { IfErr result (λ why.
-            why ≡ Form → after_inside (taken room) (holds AModule (head_of node.entry)) self.old ≡ None) }
+        ensures { BuildsNode result module_items (head_of node.entry)
+            (after_inside (taken room) (holds AModule (head_of node.entry)) self.old)
+            self.old self.new }
     {
         match node {
             Node::Module => {
@@ -50,12 +45,9 @@ impl<'p, 'a> Builder<'p, 'a> {
 
     #[tactic(auto, using(crate::proofs::Parsing::building))]
     fn each_module_item(&mut self, room: usize, field: u8) -> Result<Vec<ModuleItem>, BuildError>
-        ensures taken { IfOk result (λ made.
-            after_each (taken room AnItem field) field (length self.old) self.old ≡ Some self.new) }
-        ensures made { IfOk result (λ made.
-            self.old ≡ flat_map (module_item_items field) made.items ++ self.new) }
-        ensures refused { IfErr result (λ why.
-            why ≡ Form → after_each (taken room AnItem field) field (length self.old) self.old ≡ None) }
+        ensures { Builds result (λ made. flat_map (module_item_items field) made.items)
+            (after_each (taken room AnItem field) field (length self.old) self.old)
+            self.old self.new }
     {
         let mut list = Vec::new(self.alloc);
         let most = self.most();
@@ -72,26 +64,19 @@ impl<'p, 'a> Builder<'p, 'a> {
 
     #[tactic(auto, using(crate::proofs::Parsing::building))]
     fn module_item(&mut self, room: usize, field: u8) -> Result<ModuleItem, BuildError>
-        ensures taken { IfOk result (λ made. taken room AnItem field self.old ≡ Some self.new) }
-        ensures made { IfOk result (λ made. self.old ≡ module_item_items field made ++ self.new) }
-        ensures refused { IfErr result (λ why.
-            why ≡ Form → taken room AnItem field self.old ≡ None) }
+        ensures { Builds result (module_item_items field)
+            (taken room AnItem field self.old) self.old self.new }
     {
-        let node = self.open(field)?;
-        let less = inside(room)?;
-        let it = self.module_item_of(less, node)?;
-        self.close()?;
-        Ok(it)
+        let (node, room) = self.enter(room, field)?;
+        let it = self.module_item_of(room, node);
+        self.leave(it)
     }
 
     #[tactic(auto, using(crate::proofs::Parsing::building))]
     fn module_item_of(&mut self, room: usize, node: Node<'a>) -> Result<ModuleItem, BuildError>
-        ensures taken { IfOk result (λ made.
-            after_inside (taken room) (holds AnItem (head_of node.entry)) self.old ≡ Some self.new) }
-        ensures made { IfOk result (λ made. (field : ℕ) (rest : List Item) →
-            self.new ≡ Close ∷ rest → Open field (head_of node.entry) ∷ self.old ≡ module_item_items field made ++ rest) }
-        ensures refused { IfErr result (λ why.
-            why ≡ Form → after_inside (taken room) (holds AnItem (head_of node.entry)) self.old ≡ None) }
+        ensures { BuildsNode result module_item_items (head_of node.entry)
+            (after_inside (taken room) (holds AnItem (head_of node.entry)) self.old)
+            self.old self.new }
     {
         match node {
             Node::ImportDecl { .. }
@@ -108,12 +93,9 @@ impl<'p, 'a> Builder<'p, 'a> {
 
     #[tactic(auto, using(crate::proofs::Parsing::building))]
     fn module_decl_of(&mut self, room: usize, node: Node<'a>) -> Result<ModuleDecl, BuildError>
-        ensures taken { IfOk result (λ made.
-            after_inside (taken room) (holds AModuleDecl (head_of node.entry)) self.old ≡ Some self.new) }
-        ensures made { IfOk result (λ made. (field : ℕ) (rest : List Item) →
-            self.new ≡ Close ∷ rest → Open field (head_of node.entry) ∷ self.old ≡ module_decl_items field made ++ rest) }
-        ensures refused { IfErr result (λ why.
-            why ≡ Form → after_inside (taken room) (holds AModuleDecl (head_of node.entry)) self.old ≡ None) }
+        ensures { BuildsNode result module_decl_items (head_of node.entry)
+            (after_inside (taken room) (holds AModuleDecl (head_of node.entry)) self.old)
+            self.old self.new }
     {
         match node {
             Node::ImportDecl { meta } => {
@@ -152,12 +134,9 @@ impl<'p, 'a> Builder<'p, 'a> {
         room: usize,
         field: u8,
     ) -> Result<Vec<ImportSpecifier>, BuildError>
-        ensures taken { IfOk result (λ made.
-            after_each (taken room AnImport field) field (length self.old) self.old ≡ Some self.new) }
-        ensures made { IfOk result (λ made.
-            self.old ≡ flat_map (import_specifier_items field) made.items ++ self.new) }
-        ensures refused { IfErr result (λ why.
-            why ≡ Form → after_each (taken room AnImport field) field (length self.old) self.old ≡ None) }
+        ensures { Builds result (λ made. flat_map (import_specifier_items field) made.items)
+            (after_each (taken room AnImport field) field (length self.old) self.old)
+            self.old self.new }
     {
         let mut list = Vec::new(self.alloc);
         let most = self.most();
@@ -174,17 +153,12 @@ impl<'p, 'a> Builder<'p, 'a> {
 
     #[tactic(auto, using(crate::proofs::Parsing::building))]
     fn import_specifier(&mut self, room: usize, field: u8) -> Result<ImportSpecifier, BuildError>
-        ensures taken { IfOk result (λ made. taken room AnImport field self.old ≡ Some self.new) }
-        ensures made { IfOk result (λ made.
-            self.old ≡ import_specifier_items field made ++ self.new) }
-        ensures refused { IfErr result (λ why.
-            why ≡ Form → taken room AnImport field self.old ≡ None) }
+        ensures { Builds result (import_specifier_items field)
+            (taken room AnImport field self.old) self.old self.new }
     {
-        let node = self.open(field)?;
-        let less = inside(room)?;
-        let it = self.import_specifier_of(less, node)?;
-        self.close()?;
-        Ok(it)
+        let (node, room) = self.enter(room, field)?;
+        let it = self.import_specifier_of(room, node);
+        self.leave(it)
     }
 
     #[tactic(auto, using(crate::proofs::Parsing::building))]
@@ -193,12 +167,9 @@ impl<'p, 'a> Builder<'p, 'a> {
         room: usize,
         node: Node<'a>,
     ) -> Result<ImportSpecifier, BuildError>
-        ensures taken { IfOk result (λ made.
-            after_inside (taken room) (holds AnImport (head_of node.entry)) self.old ≡ Some self.new) }
-        ensures made { IfOk result (λ made. (field : ℕ) (rest : List Item) →
-            self.new ≡ Close ∷ rest → Open field (head_of node.entry) ∷ self.old ≡ import_specifier_items field made ++ rest) }
-        ensures refused { IfErr result (λ why.
-            why ≡ Form → after_inside (taken room) (holds AnImport (head_of node.entry)) self.old ≡ None) }
+        ensures { BuildsNode result import_specifier_items (head_of node.entry)
+            (after_inside (taken room) (holds AnImport (head_of node.entry)) self.old)
+            self.old self.new }
     {
         match node {
             Node::ImportNamedSpecifier => {
@@ -221,12 +192,8 @@ impl<'p, 'a> Builder<'p, 'a> {
     // The names are words of another module where there is a source, which comes after them.
     #[tactic(auto, using(crate::proofs::Parsing::building))]
     fn named_export(&mut self, room: usize, meta: ExportMetadata) -> Result<ModuleDecl, BuildError>
-        ensures taken { IfOk result (λ made.
-            after_inside (taken room) Exports self.old ≡ Some self.new) }
-        ensures made { IfOk result (λ made. (field : ℕ) (rest : List Item) →
-            self.new ≡ Close ∷ rest → Open field (NamedExport meta) ∷ self.old ≡ module_decl_items field made ++ rest) }
-        ensures refused { IfErr result (λ why.
-            why ≡ Form → after_inside (taken room) Exports self.old ≡ None) }
+        ensures { BuildsNode result module_decl_items (NamedExport meta)
+            (after_inside (taken room) Exports self.old) self.old self.new }
     {
         if self.has_source() {
             let specifiers = self.each_export_specifier(room, 0, Role::Word)?;
@@ -273,12 +240,9 @@ impl<'p, 'a> Builder<'p, 'a> {
         field: u8,
         role: Role,
     ) -> Result<Vec<ExportSpecifier>, BuildError>
-        ensures taken { IfOk result (λ made.
-            after_each (taken room (AnExport role) field) field (length self.old) self.old ≡ Some self.new) }
-        ensures made { IfOk result (λ made.
-            self.old ≡ flat_map (export_specifier_items role field) made.items ++ self.new) }
-        ensures refused { IfErr result (λ why.
-            why ≡ Form → after_each (taken room (AnExport role) field) field (length self.old) self.old ≡ None) }
+        ensures { Builds result (λ made. flat_map (export_specifier_items role field) made.items)
+            (after_each (taken room (AnExport role) field) field (length self.old) self.old)
+            self.old self.new }
     {
         let mut list = Vec::new(self.alloc);
         let most = self.most();
@@ -300,18 +264,12 @@ impl<'p, 'a> Builder<'p, 'a> {
         field: u8,
         role: Role,
     ) -> Result<ExportSpecifier, BuildError>
-        ensures taken { IfOk result (λ made.
-            taken room (AnExport role) field self.old ≡ Some self.new) }
-        ensures made { IfOk result (λ made.
-            self.old ≡ export_specifier_items role field made ++ self.new) }
-        ensures refused { IfErr result (λ why.
-            why ≡ Form → taken room (AnExport role) field self.old ≡ None) }
+        ensures { Builds result (export_specifier_items role field)
+            (taken room (AnExport role) field self.old) self.old self.new }
     {
-        let node = self.open(field)?;
-        let less = inside(room)?;
-        let it = self.export_specifier_of(less, node, role)?;
-        self.close()?;
-        Ok(it)
+        let (node, room) = self.enter(room, field)?;
+        let it = self.export_specifier_of(room, node, role);
+        self.leave(it)
     }
 
     #[tactic(auto, using(crate::proofs::Parsing::building))]
@@ -321,12 +279,9 @@ impl<'p, 'a> Builder<'p, 'a> {
         node: Node<'a>,
         role: Role,
     ) -> Result<ExportSpecifier, BuildError>
-        ensures taken { IfOk result (λ made.
-            after_inside (taken room) (holds (AnExport role) (head_of node.entry)) self.old ≡ Some self.new) }
-        ensures made { IfOk result (λ made. (field : ℕ) (rest : List Item) →
-            self.new ≡ Close ∷ rest → Open field (head_of node.entry) ∷ self.old ≡ export_specifier_items role field made ++ rest) }
-        ensures refused { IfErr result (λ why.
-            why ≡ Form → after_inside (taken room) (holds (AnExport role) (head_of node.entry)) self.old ≡ None) }
+        ensures { BuildsNode result (export_specifier_items role) (head_of node.entry)
+            (after_inside (taken room) (holds (AnExport role) (head_of node.entry)) self.old)
+            self.old self.new }
     {
         match node {
             Node::ExportNamespaceSpecifier => {
@@ -342,28 +297,21 @@ impl<'p, 'a> Builder<'p, 'a> {
         }
     }
 
-    #[tactic(auto, using(crate::proofs::Parsing::building))]
+    #[tactic(auto, using(crate::proofs::Parsing::parsing))]
     fn module_export_name(
         &mut self,
         room: usize,
         field: u8,
         role: Role,
     ) -> Result<ModuleExportName, BuildError>
-        ensures taken { IfOk result (λ made.
-            taken room (AModuleName role) field self.old ≡ Some self.new) }
-        ensures made { IfOk result (λ made.
-            self.old ≡ module_export_name_items role field made ++ self.new) }
-        ensures refused { IfErr result (λ why.
-            why ≡ Form → taken room (AModuleName role) field self.old ≡ None) }
+        ensures { Builds result (module_export_name_items role field)
+            (taken room (AModuleName role) field self.old) self.old self.new }
     {
         if self.is_ident() {
-            return Ok(ModuleExportName::Ident(self.ident(field, role)?));
+            Ok(ModuleExportName::Ident(self.ident(field, role)?))
+        } else {
+            Ok(ModuleExportName::Str(self.str(room, field)?))
         }
-        let node = self.open(field)?;
-        let _ = inside(room)?;
-        let it = self.str_of(node)?;
-        self.close()?;
-        Ok(ModuleExportName::Str(it))
     }
 
     #[tactic(auto, using(crate::proofs::Parsing::building))]
@@ -373,12 +321,8 @@ impl<'p, 'a> Builder<'p, 'a> {
         field: u8,
         role: Role,
     ) -> Result<Option<ModuleExportName>, BuildError>
-        ensures taken { IfOk result (λ made.
-            after_maybe (taken room (AModuleName role) field) field self.old ≡ Some self.new) }
-        ensures made { IfOk result (λ made.
-            self.old ≡ option_items (module_export_name_items role field) made ++ self.new) }
-        ensures refused { IfErr result (λ why.
-            why ≡ Form → after_maybe (taken room (AModuleName role) field) field self.old ≡ None) }
+        ensures { Builds result (option_items (module_export_name_items role field))
+            (after_maybe (taken room (AModuleName role) field) field self.old) self.old self.new }
     {
         if self.is_in(field) {
             Ok(Some(self.module_export_name(room, field, role)?))
@@ -389,26 +333,19 @@ impl<'p, 'a> Builder<'p, 'a> {
 
     #[tactic(auto, using(crate::proofs::Parsing::building))]
     fn default_decl(&mut self, room: usize, field: u8) -> Result<DefaultDecl, BuildError>
-        ensures taken { IfOk result (λ made. taken room ADefault field self.old ≡ Some self.new) }
-        ensures made { IfOk result (λ made. self.old ≡ default_decl_items field made ++ self.new) }
-        ensures refused { IfErr result (λ why.
-            why ≡ Form → taken room ADefault field self.old ≡ None) }
+        ensures { Builds result (default_decl_items field)
+            (taken room ADefault field self.old) self.old self.new }
     {
-        let node = self.open(field)?;
-        let less = inside(room)?;
-        let it = self.default_decl_of(less, node)?;
-        self.close()?;
-        Ok(it)
+        let (node, room) = self.enter(room, field)?;
+        let it = self.default_decl_of(room, node);
+        self.leave(it)
     }
 
     #[tactic(auto, using(crate::proofs::Parsing::building))]
     fn default_decl_of(&mut self, room: usize, node: Node<'a>) -> Result<DefaultDecl, BuildError>
-        ensures taken { IfOk result (λ made.
-            after_inside (taken room) (holds ADefault (head_of node.entry)) self.old ≡ Some self.new) }
-        ensures made { IfOk result (λ made. (field : ℕ) (rest : List Item) →
-            self.new ≡ Close ∷ rest → Open field (head_of node.entry) ∷ self.old ≡ default_decl_items field made ++ rest) }
-        ensures refused { IfErr result (λ why.
-            why ≡ Form → after_inside (taken room) (holds ADefault (head_of node.entry)) self.old ≡ None) }
+        ensures { BuildsNode result default_decl_items (head_of node.entry)
+            (after_inside (taken room) (holds ADefault (head_of node.entry)) self.old)
+            self.old self.new }
     {
         match node {
             Node::ClassExpr => {

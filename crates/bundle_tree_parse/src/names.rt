@@ -1,14 +1,15 @@
 //! Names and literals (ECMA-262, 12.7 and 13.2.3).
 
-ghost use Rattle.std.specs.Prelude.{◌≡◌, ◌∷◌, ◌++◌, [], ℕ, List, Some, None, IfOk, IfErr, length, string_bytes};
+ghost use Rattle.std.specs.Prelude.{◌≡◌, ℕ, Some, None, IfOk, IfErr, length, string_bytes};
 ghost use Rattle.std.specs.List.{flat_map};
-ghost use Rattle.bundle_syntax.specs.Item.{head_of, Item, Open, Close};
+ghost use Rattle.bundle_syntax.specs.Item.{head_of};
 ghost use Rattle.bundle_tree_parse.specs.declared.build.BuildError.TheVariants.{Form, OutOfMemory};
 ghost use Rattle.bundle_tree_listed.specs.Tree.{big_int_items, binding_ident_items, ident_items, ident_name_items, lit_items, number_items, option_items, private_name_items, regex_items, str_items, tpl_element_items};
-ghost use Rattle.bundle_tree_parse.specs.Sorts.{ABindingIdent, AWord, APrivateName, AString, ANumber, ABigInt, ARegex, ALiteral, ATextPart, Fields, Refused, holds};
+ghost use Rattle.bundle_tree_parse.specs.Built.{Builds, BuildsNode, BuildsLeaf};
+ghost use Rattle.bundle_tree_parse.specs.Sorts.{ABindingIdent, AWord, APrivateName, AString, ANumber, ABigInt, ARegex, ALiteral, ATextPart, holds};
 ghost use Rattle.bundle_tree_parse.specs.Parse.{after_ident, after_maybe, after_each, after_inside, taken};
 
-use crate::build::{BuildError, Builder, inside};
+use crate::build::{BuildError, Builder};
 use bundle_syntax::{Node, Role};
 use bundle_tree_ast::{
     BigInt, BindingIdent, Ident, IdentName, Lit, Number, PrivateName, Regex, Str, TplElement,
@@ -26,10 +27,8 @@ impl<'p, 'a> Builder<'p, 'a> {
 
     #[tactic(auto, using(crate::proofs::Parsing::parsing))]
     pub(crate) fn ident(&mut self, field: u8, role: Role) -> Result<Ident, BuildError>
-        ensures taken { IfOk result (λ made. after_ident role field self.old ≡ Some self.new) }
-        ensures made { IfOk result (λ made. self.old ≡ ident_items role field made ++ self.new) }
-        ensures refused { IfErr result (λ why.
-            why ≡ Form → after_ident role field self.old ≡ None) }
+        ensures { Builds result (ident_items role field)
+            (after_ident role field self.old) self.old self.new }
     {
         let (sym, ctxt) = self.take_ident(field, role)?;
         let sym = self.text(sym)?;
@@ -45,12 +44,8 @@ impl<'p, 'a> Builder<'p, 'a> {
         field: u8,
         role: Role,
     ) -> Result<Option<Ident>, BuildError>
-        ensures taken { IfOk result (λ made.
-            after_maybe (after_ident role field) field self.old ≡ Some self.new) }
-        ensures made { IfOk result (λ made.
-            self.old ≡ option_items (ident_items role field) made ++ self.new) }
-        ensures refused { IfErr result (λ why.
-            why ≡ Form → after_maybe (after_ident role field) field self.old ≡ None) }
+        ensures { Builds result (option_items (ident_items role field))
+            (after_maybe (after_ident role field) field self.old) self.old self.new }
     {
         if self.is_in(field) {
             Ok(Some(self.ident(field, role)?))
@@ -66,18 +61,12 @@ impl<'p, 'a> Builder<'p, 'a> {
         field: u8,
         role: Role,
     ) -> Result<BindingIdent, BuildError>
-        ensures taken { IfOk result (λ made.
-            taken room (ABindingIdent role) field self.old ≡ Some self.new) }
-        ensures made { IfOk result (λ made.
-            self.old ≡ binding_ident_items role field made ++ self.new) }
-        ensures refused { IfErr result (λ why.
-            why ≡ Form → taken room (ABindingIdent role) field self.old ≡ None) }
+        ensures { Builds result (binding_ident_items role field)
+            (taken room (ABindingIdent role) field self.old) self.old self.new }
     {
-        let node = self.open(field)?;
-        let _ = inside(room)?;
-        let it = self.binding_ident_of(node, role)?;
-        self.close()?;
-        Ok(it)
+        let (node, _) = self.enter(room, field)?;
+        let it = self.binding_ident_of(node, role);
+        self.leave(it)
     }
 
     #[tactic(auto, using(crate::proofs::Parsing::parsing))]
@@ -86,12 +75,9 @@ impl<'p, 'a> Builder<'p, 'a> {
         node: Node<'a>,
         role: Role,
     ) -> Result<BindingIdent, BuildError>
-        ensures taken { IfOk result (λ made.
-            (room : ℕ) → after_inside (taken room) (holds (ABindingIdent role) (head_of node.entry)) self.old ≡ Some self.new) }
-        ensures made { IfOk result (λ made. (field : ℕ) (rest : List Item) →
-            self.new ≡ Close ∷ rest → Open field (head_of node.entry) ∷ self.old ≡ binding_ident_items role field made ++ rest) }
-        ensures refused { IfErr result (λ why.
-            why ≡ Form → (room : ℕ) → after_inside (taken room) (holds (ABindingIdent role) (head_of node.entry)) self.old ≡ None) }
+        ensures { (room : ℕ) → BuildsNode result (binding_ident_items role) (head_of node.entry)
+            (after_inside (taken room) (holds (ABindingIdent role) (head_of node.entry)) self.old)
+            self.old self.new }
     {
         match node {
             Node::BindingIdent => {
@@ -104,25 +90,18 @@ impl<'p, 'a> Builder<'p, 'a> {
 
     #[tactic(auto, using(crate::proofs::Parsing::parsing))]
     pub(crate) fn ident_name(&mut self, room: usize, field: u8) -> Result<IdentName, BuildError>
-        ensures taken { IfOk result (λ made. taken room AWord field self.old ≡ Some self.new) }
-        ensures made { IfOk result (λ made. self.old ≡ ident_name_items field made ++ self.new) }
-        ensures refused { IfErr result (λ why.
-            why ≡ Form → taken room AWord field self.old ≡ None) }
+        ensures { Builds result (ident_name_items field)
+            (taken room AWord field self.old) self.old self.new }
     {
-        let node = self.open(field)?;
-        let _ = inside(room)?;
-        let it = self.ident_name_of(node)?;
-        self.close()?;
-        Ok(it)
+        let (node, _) = self.enter(room, field)?;
+        let it = self.ident_name_of(node);
+        self.leave(it)
     }
 
     #[tactic(auto, using(crate::proofs::Parsing::parsing))]
     pub(crate) fn ident_name_of(&self, node: Node<'a>) -> Result<IdentName, BuildError>
-        ensures taken { IfOk result (λ made. holds AWord (head_of node.entry) ≡ Fields []) }
-        ensures made { IfOk result (λ made. (field : ℕ) (rest : List Item) →
-            Open field (head_of node.entry) ∷ Close ∷ rest ≡ ident_name_items field made ++ rest) }
-        ensures refused { IfErr result (λ why.
-            why ≡ Form → holds AWord (head_of node.entry) ≡ Refused) }
+        ensures { BuildsLeaf result ident_name_items (head_of node.entry)
+            (holds AWord (head_of node.entry)) }
     {
         match node {
             Node::IdentName { sym } => Ok(IdentName {
@@ -138,12 +117,8 @@ impl<'p, 'a> Builder<'p, 'a> {
         room: usize,
         field: u8,
     ) -> Result<Option<IdentName>, BuildError>
-        ensures taken { IfOk result (λ made.
-            after_maybe (taken room AWord field) field self.old ≡ Some self.new) }
-        ensures made { IfOk result (λ made.
-            self.old ≡ option_items (ident_name_items field) made ++ self.new) }
-        ensures refused { IfErr result (λ why.
-            why ≡ Form → after_maybe (taken room AWord field) field self.old ≡ None) }
+        ensures { Builds result (option_items (ident_name_items field))
+            (after_maybe (taken room AWord field) field self.old) self.old self.new }
     {
         if self.is_in(field) {
             Ok(Some(self.ident_name(room, field)?))
@@ -154,26 +129,18 @@ impl<'p, 'a> Builder<'p, 'a> {
 
     #[tactic(auto, using(crate::proofs::Parsing::parsing))]
     pub(crate) fn private_name(&mut self, room: usize, field: u8) -> Result<PrivateName, BuildError>
-        ensures taken { IfOk result (λ made.
-            taken room APrivateName field self.old ≡ Some self.new) }
-        ensures made { IfOk result (λ made. self.old ≡ private_name_items field made ++ self.new) }
-        ensures refused { IfErr result (λ why.
-            why ≡ Form → taken room APrivateName field self.old ≡ None) }
+        ensures { Builds result (private_name_items field)
+            (taken room APrivateName field self.old) self.old self.new }
     {
-        let node = self.open(field)?;
-        let _ = inside(room)?;
-        let it = self.private_name_of(node)?;
-        self.close()?;
-        Ok(it)
+        let (node, _) = self.enter(room, field)?;
+        let it = self.private_name_of(node);
+        self.leave(it)
     }
 
     #[tactic(auto, using(crate::proofs::Parsing::parsing))]
     pub(crate) fn private_name_of(&self, node: Node<'a>) -> Result<PrivateName, BuildError>
-        ensures taken { IfOk result (λ made. holds APrivateName (head_of node.entry) ≡ Fields []) }
-        ensures made { IfOk result (λ made. (field : ℕ) (rest : List Item) →
-            Open field (head_of node.entry) ∷ Close ∷ rest ≡ private_name_items field made ++ rest) }
-        ensures refused { IfErr result (λ why.
-            why ≡ Form → holds APrivateName (head_of node.entry) ≡ Refused) }
+        ensures { BuildsLeaf result private_name_items (head_of node.entry)
+            (holds APrivateName (head_of node.entry)) }
     {
         match node {
             Node::PrivateName { sym } => Ok(PrivateName {
@@ -185,25 +152,18 @@ impl<'p, 'a> Builder<'p, 'a> {
 
     #[tactic(auto, using(crate::proofs::Parsing::parsing))]
     pub(crate) fn str(&mut self, room: usize, field: u8) -> Result<Str, BuildError>
-        ensures taken { IfOk result (λ made. taken room AString field self.old ≡ Some self.new) }
-        ensures made { IfOk result (λ made. self.old ≡ str_items field made ++ self.new) }
-        ensures refused { IfErr result (λ why.
-            why ≡ Form → taken room AString field self.old ≡ None) }
+        ensures { Builds result (str_items field)
+            (taken room AString field self.old) self.old self.new }
     {
-        let node = self.open(field)?;
-        let _ = inside(room)?;
-        let it = self.str_of(node)?;
-        self.close()?;
-        Ok(it)
+        let (node, _) = self.enter(room, field)?;
+        let it = self.str_of(node);
+        self.leave(it)
     }
 
     #[tactic(auto, using(crate::proofs::Parsing::parsing))]
     pub(crate) fn str_of(&self, node: Node<'a>) -> Result<Str, BuildError>
-        ensures taken { IfOk result (λ made. holds AString (head_of node.entry) ≡ Fields []) }
-        ensures made { IfOk result (λ made. (field : ℕ) (rest : List Item) →
-            Open field (head_of node.entry) ∷ Close ∷ rest ≡ str_items field made ++ rest) }
-        ensures refused { IfErr result (λ why.
-            why ≡ Form → holds AString (head_of node.entry) ≡ Refused) }
+        ensures { BuildsLeaf result str_items (head_of node.entry)
+            (holds AString (head_of node.entry)) }
     {
         match node {
             Node::Str { value, raw } => {
@@ -220,11 +180,8 @@ impl<'p, 'a> Builder<'p, 'a> {
 
     #[tactic(auto, using(crate::proofs::Parsing::parsing))]
     pub(crate) fn number_of(&self, node: Node<'a>) -> Result<Number, BuildError>
-        ensures taken { IfOk result (λ made. holds ANumber (head_of node.entry) ≡ Fields []) }
-        ensures made { IfOk result (λ made. (field : ℕ) (rest : List Item) →
-            Open field (head_of node.entry) ∷ Close ∷ rest ≡ number_items field made ++ rest) }
-        ensures refused { IfErr result (λ why.
-            why ≡ Form → holds ANumber (head_of node.entry) ≡ Refused) }
+        ensures { BuildsLeaf result number_items (head_of node.entry)
+            (holds ANumber (head_of node.entry)) }
     {
         match node {
             Node::Number { raw } => Ok(Number {
@@ -236,11 +193,8 @@ impl<'p, 'a> Builder<'p, 'a> {
 
     #[tactic(auto, using(crate::proofs::Parsing::parsing))]
     pub(crate) fn big_int_of(&self, node: Node<'a>) -> Result<BigInt, BuildError>
-        ensures taken { IfOk result (λ made. holds ABigInt (head_of node.entry) ≡ Fields []) }
-        ensures made { IfOk result (λ made. (field : ℕ) (rest : List Item) →
-            Open field (head_of node.entry) ∷ Close ∷ rest ≡ big_int_items field made ++ rest) }
-        ensures refused { IfErr result (λ why.
-            why ≡ Form → holds ABigInt (head_of node.entry) ≡ Refused) }
+        ensures { BuildsLeaf result big_int_items (head_of node.entry)
+            (holds ABigInt (head_of node.entry)) }
     {
         match node {
             Node::BigInt { raw } => Ok(BigInt {
@@ -252,11 +206,8 @@ impl<'p, 'a> Builder<'p, 'a> {
 
     #[tactic(auto, using(crate::proofs::Parsing::parsing))]
     fn regex_of(&self, node: Node<'a>) -> Result<Regex, BuildError>
-        ensures taken { IfOk result (λ made. holds ARegex (head_of node.entry) ≡ Fields []) }
-        ensures made { IfOk result (λ made. (field : ℕ) (rest : List Item) →
-            Open field (head_of node.entry) ∷ Close ∷ rest ≡ regex_items field made ++ rest) }
-        ensures refused { IfErr result (λ why.
-            why ≡ Form → holds ARegex (head_of node.entry) ≡ Refused) }
+        ensures { BuildsLeaf result regex_items (head_of node.entry)
+            (holds ARegex (head_of node.entry)) }
     {
         match node {
             Node::Regex { raw } => Ok(Regex {
@@ -268,11 +219,8 @@ impl<'p, 'a> Builder<'p, 'a> {
 
     #[tactic(auto, using(crate::proofs::Parsing::parsing))]
     pub(crate) fn lit_of(&self, node: Node<'a>) -> Result<Lit, BuildError>
-        ensures taken { IfOk result (λ made. holds ALiteral (head_of node.entry) ≡ Fields []) }
-        ensures made { IfOk result (λ made. (field : ℕ) (rest : List Item) →
-            Open field (head_of node.entry) ∷ Close ∷ rest ≡ lit_items field made ++ rest) }
-        ensures refused { IfErr result (λ why.
-            why ≡ Form → holds ALiteral (head_of node.entry) ≡ Refused) }
+        ensures { BuildsLeaf result lit_items (head_of node.entry)
+            (holds ALiteral (head_of node.entry)) }
     {
         match node {
             Node::Str { .. } => Ok(Lit::Str(self.str_of(node)?)),
@@ -287,25 +235,18 @@ impl<'p, 'a> Builder<'p, 'a> {
 
     #[tactic(auto, using(crate::proofs::Parsing::parsing))]
     fn tpl_element(&mut self, room: usize, field: u8) -> Result<TplElement, BuildError>
-        ensures taken { IfOk result (λ made. taken room ATextPart field self.old ≡ Some self.new) }
-        ensures made { IfOk result (λ made. self.old ≡ tpl_element_items field made ++ self.new) }
-        ensures refused { IfErr result (λ why.
-            why ≡ Form → taken room ATextPart field self.old ≡ None) }
+        ensures { Builds result (tpl_element_items field)
+            (taken room ATextPart field self.old) self.old self.new }
     {
-        let node = self.open(field)?;
-        let _ = inside(room)?;
-        let it = self.tpl_element_of(node)?;
-        self.close()?;
-        Ok(it)
+        let (node, _) = self.enter(room, field)?;
+        let it = self.tpl_element_of(node);
+        self.leave(it)
     }
 
     #[tactic(auto, using(crate::proofs::Parsing::parsing))]
     fn tpl_element_of(&self, node: Node<'a>) -> Result<TplElement, BuildError>
-        ensures taken { IfOk result (λ made. holds ATextPart (head_of node.entry) ≡ Fields []) }
-        ensures made { IfOk result (λ made. (field : ℕ) (rest : List Item) →
-            Open field (head_of node.entry) ∷ Close ∷ rest ≡ tpl_element_items field made ++ rest) }
-        ensures refused { IfErr result (λ why.
-            why ≡ Form → holds ATextPart (head_of node.entry) ≡ Refused) }
+        ensures { BuildsLeaf result tpl_element_items (head_of node.entry)
+            (holds ATextPart (head_of node.entry)) }
     {
         match node {
             Node::TplElement { raw } => Ok(TplElement {
@@ -321,12 +262,9 @@ impl<'p, 'a> Builder<'p, 'a> {
         room: usize,
         field: u8,
     ) -> Result<Vec<TplElement>, BuildError>
-        ensures taken { IfOk result (λ made.
-            after_each (taken room ATextPart field) field (length self.old) self.old ≡ Some self.new) }
-        ensures made { IfOk result (λ made.
-            self.old ≡ flat_map (tpl_element_items field) made.items ++ self.new) }
-        ensures refused { IfErr result (λ why.
-            why ≡ Form → after_each (taken room ATextPart field) field (length self.old) self.old ≡ None) }
+        ensures { Builds result (λ made. flat_map (tpl_element_items field) made.items)
+            (after_each (taken room ATextPart field) field (length self.old) self.old)
+            self.old self.new }
     {
         let mut list = Vec::new(self.alloc);
         let most = self.most();

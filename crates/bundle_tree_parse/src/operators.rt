@@ -1,9 +1,9 @@
 //! Expressions of operators (ECMA-262, 13.4 to 13.16).
 
-ghost use Rattle.std.specs.Prelude.{◌≡◌, ◌∷◌, ◌++◌, ℕ, List, Some, None, IfOk, IfErr};
-ghost use Rattle.bundle_syntax.specs.Item.{head_of, Item, Open, Close};
+ghost use Rattle.bundle_syntax.specs.Item.{head_of};
 ghost use Rattle.bundle_tree_parse.specs.declared.build.BuildError.TheVariants.{Form};
 ghost use Rattle.bundle_tree_listed.specs.Tree.{expr_items};
+ghost use Rattle.bundle_tree_parse.specs.Built.{BuildsNode};
 ghost use Rattle.bundle_tree_parse.specs.Sorts.{AnOperatorExpr, AWideOperatorExpr, holds};
 ghost use Rattle.bundle_tree_parse.specs.Parse.{after_inside, taken};
 
@@ -19,12 +19,9 @@ impl<'p, 'a> Builder<'p, 'a> {
         room: usize,
         node: Node<'a>,
     ) -> Result<Expr, BuildError>
-        ensures taken { IfOk result (λ made.
-            after_inside (taken room) (holds AnOperatorExpr (head_of node.entry)) self.old ≡ Some self.new) }
-        ensures made { IfOk result (λ made. (field : ℕ) (rest : List Item) →
-            self.new ≡ Close ∷ rest → Open field (head_of node.entry) ∷ self.old ≡ expr_items field made ++ rest) }
-        ensures refused { IfErr result (λ why.
-            why ≡ Form → after_inside (taken room) (holds AnOperatorExpr (head_of node.entry)) self.old ≡ None) }
+        ensures { BuildsNode result expr_items (head_of node.entry)
+            (after_inside (taken room) (holds AnOperatorExpr (head_of node.entry)) self.old)
+            self.old self.new }
     {
         match node {
             Node::UnaryExpr { op } => {
@@ -51,12 +48,9 @@ impl<'p, 'a> Builder<'p, 'a> {
     #[cycle(build)]
     #[tactic(auto, using(crate::proofs::Parsing::building))]
     fn wide_operator_expr_of(&mut self, room: usize, node: Node<'a>) -> Result<Expr, BuildError>
-        ensures taken { IfOk result (λ made.
-            after_inside (taken room) (holds AWideOperatorExpr (head_of node.entry)) self.old ≡ Some self.new) }
-        ensures made { IfOk result (λ made. (field : ℕ) (rest : List Item) →
-            self.new ≡ Close ∷ rest → Open field (head_of node.entry) ∷ self.old ≡ expr_items field made ++ rest) }
-        ensures refused { IfErr result (λ why.
-            why ≡ Form → after_inside (taken room) (holds AWideOperatorExpr (head_of node.entry)) self.old ≡ None) }
+        ensures { BuildsNode result expr_items (head_of node.entry)
+            (after_inside (taken room) (holds AWideOperatorExpr (head_of node.entry)) self.old)
+            self.old self.new }
     {
         match node {
             Node::BinExpr { op } => {

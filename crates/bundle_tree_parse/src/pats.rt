@@ -1,13 +1,14 @@
 //! Patterns, and what is assigned to (ECMA-262, 13.15.5 and 14.3.3). `role` is what the names in them are.
 
-ghost use Rattle.std.specs.Prelude.{◌≡◌, ◌∷◌, ◌++◌, ℕ, List, Some, None, IfOk, IfErr, length};
-ghost use Rattle.bundle_syntax.specs.Item.{head_of, Item, Open, Close};
+ghost use Rattle.std.specs.Prelude.{Some, None, length};
+ghost use Rattle.bundle_syntax.specs.Item.{head_of};
 ghost use Rattle.bundle_tree_parse.specs.declared.build.BuildError.TheVariants.{Form};
 ghost use Rattle.bundle_tree_listed.specs.Tree.{array_pat_items, assign_target_items, each_object_pat_prop_items, each_option_pat_items, each_pat_items, object_pat_items, object_pat_prop_items, option_pat_items, pat_items, pat_place_items, rest_pat_items};
+ghost use Rattle.bundle_tree_parse.specs.Built.{Builds, BuildsNode};
 ghost use Rattle.bundle_tree_parse.specs.Sorts.{APattern, AnArrayPattern, ARestPattern, AnObjectPattern, APatternProperty, ATarget, holds};
 ghost use Rattle.bundle_tree_parse.specs.Parse.{after_maybe, after_each, after_place, after_inside, taken};
 
-use crate::build::{BuildError, Builder, inside};
+use crate::build::{BuildError, Builder};
 use bundle_syntax::{Node, Role};
 use bundle_tree_ast::{ArrayPat, AssignTarget, ObjectPat, ObjectPatProp, Pat, RestPat};
 
@@ -15,20 +16,15 @@ impl<'p, 'a> Builder<'p, 'a> {
     #[cycle(build)]
     #[tactic(auto, using(crate::proofs::Parsing::building))]
     pub(crate) fn pat(&mut self, room: usize, field: u8, role: Role) -> Result<Pat, BuildError>
-        ensures taken { IfOk result (λ made.
-            taken room (APattern role) field self.old ≡ Some self.new) }
-        ensures made { IfOk result (λ made. self.old ≡ pat_items role field made ++ self.new) }
-        ensures refused { IfErr result (λ why.
-            why ≡ Form → taken room (APattern role) field self.old ≡ None) }
+        ensures { Builds result (pat_items role field)
+            (taken room (APattern role) field self.old) self.old self.new }
     {
         if self.is_ident() {
             return Ok(Pat::Expr(self.boxed_ident(field)?));
         }
-        let node = self.open(field)?;
-        let less = inside(room)?;
-        let it = self.pat_of(less, node, role)?;
-        self.close()?;
-        Ok(it)
+        let (node, room) = self.enter(room, field)?;
+        let it = self.pat_of(room, node, role);
+        self.leave(it)
     }
 
     #[cycle(build)]
@@ -39,12 +35,9 @@ impl<'p, 'a> Builder<'p, 'a> {
         node: Node<'a>,
         role: Role,
     ) -> Result<Pat, BuildError>
-        ensures taken { IfOk result (λ made.
-            after_inside (taken room) (holds (APattern role) (head_of node.entry)) self.old ≡ Some self.new) }
-        ensures made { IfOk result (λ made. (field : ℕ) (rest : List Item) →
-            self.new ≡ Close ∷ rest → Open field (head_of node.entry) ∷ self.old ≡ pat_items role field made ++ rest) }
-        ensures refused { IfErr result (λ why.
-            why ≡ Form → after_inside (taken room) (holds (APattern role) (head_of node.entry)) self.old ≡ None) }
+        ensures { BuildsNode result (pat_items role) (head_of node.entry)
+            (after_inside (taken room) (holds (APattern role) (head_of node.entry)) self.old)
+            self.old self.new }
     {
         match node {
             Node::BindingIdent => Ok(Pat::BindingIdent(self.binding_ident_of(node, role)?)),
@@ -63,15 +56,11 @@ impl<'p, 'a> Builder<'p, 'a> {
     #[cycle(build)]
     #[tactic(auto, using(crate::proofs::Parsing::building))]
     fn boxed_pat(&mut self, room: usize, field: u8, role: Role) -> Result<Box<Pat>, BuildError>
-        ensures taken { IfOk result (λ made.
-            taken room (APattern role) field self.old ≡ Some self.new) }
-        ensures made { IfOk result (λ made.
-            self.old ≡ pat_items role field made.value ++ self.new) }
-        ensures refused { IfErr result (λ why.
-            why ≡ Form → taken room (APattern role) field self.old ≡ None) }
+        ensures { Builds result (λ made. pat_items role field made.value)
+            (taken room (APattern role) field self.old) self.old self.new }
     {
-        let it = self.pat(room, field, role)?;
-        Ok(Box::new(self.alloc, it)?)
+        let it = self.pat(room, field, role);
+        self.boxed(it)
     }
 
     #[cycle(build)]
@@ -82,12 +71,8 @@ impl<'p, 'a> Builder<'p, 'a> {
         field: u8,
         role: Role,
     ) -> Result<Option<Pat>, BuildError>
-        ensures taken { IfOk result (λ made.
-            after_maybe (taken room (APattern role) field) field self.old ≡ Some self.new) }
-        ensures made { IfOk result (λ made.
-            self.old ≡ option_pat_items role field made ++ self.new) }
-        ensures refused { IfErr result (λ why.
-            why ≡ Form → after_maybe (taken room (APattern role) field) field self.old ≡ None) }
+        ensures { Builds result (option_pat_items role field)
+            (after_maybe (taken room (APattern role) field) field self.old) self.old self.new }
     {
         if self.is_in(field) {
             Ok(Some(self.pat(room, field, role)?))
@@ -104,11 +89,9 @@ impl<'p, 'a> Builder<'p, 'a> {
         field: u8,
         role: Role,
     ) -> Result<Vec<Pat>, BuildError>
-        ensures taken { IfOk result (λ made.
-            after_each (taken room (APattern role) field) field (length self.old) self.old ≡ Some self.new) }
-        ensures made { IfOk result (λ made. self.old ≡ each_pat_items role field made ++ self.new) }
-        ensures refused { IfErr result (λ why.
-            why ≡ Form → after_each (taken room (APattern role) field) field (length self.old) self.old ≡ None) }
+        ensures { Builds result (each_pat_items role field)
+            (after_each (taken room (APattern role) field) field (length self.old) self.old)
+            self.old self.new }
     {
         let mut list = Vec::new(self.alloc);
         let most = self.most();
@@ -131,12 +114,8 @@ impl<'p, 'a> Builder<'p, 'a> {
         field: u8,
         role: Role,
     ) -> Result<Option<Pat>, BuildError>
-        ensures taken { IfOk result (λ made.
-            after_place (taken room (APattern role) field) field self.old ≡ Some self.new) }
-        ensures made { IfOk result (λ made.
-            self.old ≡ pat_place_items role field made ++ self.new) }
-        ensures refused { IfErr result (λ why.
-            why ≡ Form → after_place (taken room (APattern role) field) field self.old ≡ None) }
+        ensures { Builds result (pat_place_items role field)
+            (after_place (taken room (APattern role) field) field self.old) self.old self.new }
     {
         if self.is_hole() {
             self.hole(field)?;
@@ -154,12 +133,10 @@ impl<'p, 'a> Builder<'p, 'a> {
         field: u8,
         role: Role,
     ) -> Result<Vec<Option<Pat>>, BuildError>
-        ensures taken { IfOk result (λ made.
-            after_each (after_place (taken room (APattern role) field) field) field (length self.old) self.old ≡ Some self.new) }
-        ensures made { IfOk result (λ made.
-            self.old ≡ each_option_pat_items role field made ++ self.new) }
-        ensures refused { IfErr result (λ why.
-            why ≡ Form → after_each (after_place (taken room (APattern role) field) field) field (length self.old) self.old ≡ None) }
+        ensures { Builds result (each_option_pat_items role field)
+            (after_each (after_place (taken room (APattern role) field) field)
+            field (length self.old) self.old)
+            self.old self.new }
     {
         let mut list = Vec::new(self.alloc);
         let most = self.most();
@@ -182,12 +159,9 @@ impl<'p, 'a> Builder<'p, 'a> {
         node: Node<'a>,
         role: Role,
     ) -> Result<ArrayPat, BuildError>
-        ensures taken { IfOk result (λ made.
-            after_inside (taken room) (holds (AnArrayPattern role) (head_of node.entry)) self.old ≡ Some self.new) }
-        ensures made { IfOk result (λ made. (field : ℕ) (rest : List Item) →
-            self.new ≡ Close ∷ rest → Open field (head_of node.entry) ∷ self.old ≡ array_pat_items role field made ++ rest) }
-        ensures refused { IfErr result (λ why.
-            why ≡ Form → after_inside (taken room) (holds (AnArrayPattern role) (head_of node.entry)) self.old ≡ None) }
+        ensures { BuildsNode result (array_pat_items role) (head_of node.entry)
+            (after_inside (taken room) (holds (AnArrayPattern role) (head_of node.entry)) self.old)
+            self.old self.new }
     {
         match node {
             Node::ArrayPat => {
@@ -206,12 +180,9 @@ impl<'p, 'a> Builder<'p, 'a> {
         node: Node<'a>,
         role: Role,
     ) -> Result<RestPat, BuildError>
-        ensures taken { IfOk result (λ made.
-            after_inside (taken room) (holds (ARestPattern role) (head_of node.entry)) self.old ≡ Some self.new) }
-        ensures made { IfOk result (λ made. (field : ℕ) (rest : List Item) →
-            self.new ≡ Close ∷ rest → Open field (head_of node.entry) ∷ self.old ≡ rest_pat_items role field made ++ rest) }
-        ensures refused { IfErr result (λ why.
-            why ≡ Form → after_inside (taken room) (holds (ARestPattern role) (head_of node.entry)) self.old ≡ None) }
+        ensures { BuildsNode result (rest_pat_items role) (head_of node.entry)
+            (after_inside (taken room) (holds (ARestPattern role) (head_of node.entry)) self.old)
+            self.old self.new }
     {
         match node {
             Node::RestPat => {
@@ -230,12 +201,9 @@ impl<'p, 'a> Builder<'p, 'a> {
         node: Node<'a>,
         role: Role,
     ) -> Result<ObjectPat, BuildError>
-        ensures taken { IfOk result (λ made.
-            after_inside (taken room) (holds (AnObjectPattern role) (head_of node.entry)) self.old ≡ Some self.new) }
-        ensures made { IfOk result (λ made. (field : ℕ) (rest : List Item) →
-            self.new ≡ Close ∷ rest → Open field (head_of node.entry) ∷ self.old ≡ object_pat_items role field made ++ rest) }
-        ensures refused { IfErr result (λ why.
-            why ≡ Form → after_inside (taken room) (holds (AnObjectPattern role) (head_of node.entry)) self.old ≡ None) }
+        ensures { BuildsNode result (object_pat_items role) (head_of node.entry)
+            (after_inside (taken room) (holds (AnObjectPattern role) (head_of node.entry)) self.old)
+            self.old self.new }
     {
         match node {
             Node::ObjectPat => {
@@ -254,12 +222,9 @@ impl<'p, 'a> Builder<'p, 'a> {
         field: u8,
         role: Role,
     ) -> Result<Vec<ObjectPatProp>, BuildError>
-        ensures taken { IfOk result (λ made.
-            after_each (taken room (APatternProperty role) field) field (length self.old) self.old ≡ Some self.new) }
-        ensures made { IfOk result (λ made.
-            self.old ≡ each_object_pat_prop_items role field made ++ self.new) }
-        ensures refused { IfErr result (λ why.
-            why ≡ Form → after_each (taken room (APatternProperty role) field) field (length self.old) self.old ≡ None) }
+        ensures { Builds result (each_object_pat_prop_items role field)
+            (after_each (taken room (APatternProperty role) field) field (length self.old) self.old)
+            self.old self.new }
     {
         let mut list = Vec::new(self.alloc);
         let most = self.most();
@@ -282,18 +247,12 @@ impl<'p, 'a> Builder<'p, 'a> {
         field: u8,
         role: Role,
     ) -> Result<ObjectPatProp, BuildError>
-        ensures taken { IfOk result (λ made.
-            taken room (APatternProperty role) field self.old ≡ Some self.new) }
-        ensures made { IfOk result (λ made.
-            self.old ≡ object_pat_prop_items role field made ++ self.new) }
-        ensures refused { IfErr result (λ why.
-            why ≡ Form → taken room (APatternProperty role) field self.old ≡ None) }
+        ensures { Builds result (object_pat_prop_items role field)
+            (taken room (APatternProperty role) field self.old) self.old self.new }
     {
-        let node = self.open(field)?;
-        let less = inside(room)?;
-        let it = self.object_pat_prop_of(less, node, role)?;
-        self.close()?;
-        Ok(it)
+        let (node, room) = self.enter(room, field)?;
+        let it = self.object_pat_prop_of(room, node, role);
+        self.leave(it)
     }
 
     #[cycle(build)]
@@ -304,12 +263,10 @@ impl<'p, 'a> Builder<'p, 'a> {
         node: Node<'a>,
         role: Role,
     ) -> Result<ObjectPatProp, BuildError>
-        ensures taken { IfOk result (λ made.
-            after_inside (taken room) (holds (APatternProperty role) (head_of node.entry)) self.old ≡ Some self.new) }
-        ensures made { IfOk result (λ made. (field : ℕ) (rest : List Item) →
-            self.new ≡ Close ∷ rest → Open field (head_of node.entry) ∷ self.old ≡ object_pat_prop_items role field made ++ rest) }
-        ensures refused { IfErr result (λ why.
-            why ≡ Form → after_inside (taken room) (holds (APatternProperty role) (head_of node.entry)) self.old ≡ None) }
+        ensures { BuildsNode result (object_pat_prop_items role) (head_of node.entry)
+            (after_inside (taken room)
+            (holds (APatternProperty role) (head_of node.entry)) self.old)
+            self.old self.new }
     {
         match node {
             Node::RestPat => Ok(ObjectPatProp::RestPat(self.rest_pat_of(room, node, role)?)),
@@ -334,27 +291,20 @@ impl<'p, 'a> Builder<'p, 'a> {
         room: usize,
         field: u8,
     ) -> Result<AssignTarget, BuildError>
-        ensures taken { IfOk result (λ made. taken room ATarget field self.old ≡ Some self.new) }
-        ensures made { IfOk result (λ made. self.old ≡ assign_target_items field made ++ self.new) }
-        ensures refused { IfErr result (λ why.
-            why ≡ Form → taken room ATarget field self.old ≡ None) }
+        ensures { Builds result (assign_target_items field)
+            (taken room ATarget field self.old) self.old self.new }
     {
-        let node = self.open(field)?;
-        let less = inside(room)?;
-        let it = self.assign_target_of(less, node)?;
-        self.close()?;
-        Ok(it)
+        let (node, room) = self.enter(room, field)?;
+        let it = self.assign_target_of(room, node);
+        self.leave(it)
     }
 
     #[cycle(build)]
     #[tactic(auto, using(crate::proofs::Parsing::building))]
     fn assign_target_of(&mut self, room: usize, node: Node<'a>) -> Result<AssignTarget, BuildError>
-        ensures taken { IfOk result (λ made.
-            after_inside (taken room) (holds ATarget (head_of node.entry)) self.old ≡ Some self.new) }
-        ensures made { IfOk result (λ made. (field : ℕ) (rest : List Item) →
-            self.new ≡ Close ∷ rest → Open field (head_of node.entry) ∷ self.old ≡ assign_target_items field made ++ rest) }
-        ensures refused { IfErr result (λ why.
-            why ≡ Form → after_inside (taken room) (holds ATarget (head_of node.entry)) self.old ≡ None) }
+        ensures { BuildsNode result assign_target_items (head_of node.entry)
+            (after_inside (taken room) (holds ATarget (head_of node.entry)) self.old)
+            self.old self.new }
     {
         match node {
             Node::BindingIdent => Ok(AssignTarget::BindingIdent(self.binding_ident_of(

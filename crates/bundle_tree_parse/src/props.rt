@@ -1,14 +1,15 @@
 //! Properties (ECMA-262, 13.2.5 and 13.3.2).
 
-ghost use Rattle.std.specs.Prelude.{◌≡◌, ◌∷◌, ◌++◌, ℕ, List, Some, None, IfOk, IfErr, length};
+ghost use Rattle.std.specs.Prelude.{length};
 ghost use Rattle.std.specs.List.{flat_map};
-ghost use Rattle.bundle_syntax.specs.Item.{head_of, Item, Open, Close};
+ghost use Rattle.bundle_syntax.specs.Item.{head_of};
 ghost use Rattle.bundle_tree_parse.specs.declared.build.BuildError.TheVariants.{Form};
 ghost use Rattle.bundle_tree_listed.specs.Tree.{computed_prop_name_items, each_prop_or_spread_items, key_value_prop_items, member_prop_items, prop_items, prop_name_items, prop_or_spread_items, super_prop_items};
+ghost use Rattle.bundle_tree_parse.specs.Built.{Builds, BuildsNode};
 ghost use Rattle.bundle_tree_parse.specs.Sorts.{APropertyOrSpread, AProperty, AKeyValue, AComputedKey, AKey, AMemberKey, ASuperKey, holds};
 ghost use Rattle.bundle_tree_parse.specs.Parse.{after_each, after_inside, taken};
 
-use crate::build::{BuildError, Builder, inside};
+use crate::build::{BuildError, Builder};
 use bundle_syntax::{Node, Role};
 use bundle_tree_ast::{
     ComputedPropName, KeyValueProp, MemberProp, Prop, PropName, PropOrSpread, SuperProp,
@@ -22,12 +23,9 @@ impl<'p, 'a> Builder<'p, 'a> {
         room: usize,
         field: u8,
     ) -> Result<Vec<PropOrSpread>, BuildError>
-        ensures taken { IfOk result (λ made.
-            after_each (taken room APropertyOrSpread field) field (length self.old) self.old ≡ Some self.new) }
-        ensures made { IfOk result (λ made.
-            self.old ≡ each_prop_or_spread_items field made ++ self.new) }
-        ensures refused { IfErr result (λ why.
-            why ≡ Form → after_each (taken room APropertyOrSpread field) field (length self.old) self.old ≡ None) }
+        ensures { Builds result (each_prop_or_spread_items field)
+            (after_each (taken room APropertyOrSpread field) field (length self.old) self.old)
+            self.old self.new }
     {
         let mut list = Vec::new(self.alloc);
         let most = self.most();
@@ -45,32 +43,23 @@ impl<'p, 'a> Builder<'p, 'a> {
     #[cycle(build)]
     #[tactic(auto, using(crate::proofs::Parsing::building))]
     fn prop_or_spread(&mut self, room: usize, field: u8) -> Result<PropOrSpread, BuildError>
-        ensures taken { IfOk result (λ made.
-            taken room APropertyOrSpread field self.old ≡ Some self.new) }
-        ensures made { IfOk result (λ made.
-            self.old ≡ prop_or_spread_items field made ++ self.new) }
-        ensures refused { IfErr result (λ why.
-            why ≡ Form → taken room APropertyOrSpread field self.old ≡ None) }
+        ensures { Builds result (prop_or_spread_items field)
+            (taken room APropertyOrSpread field self.old) self.old self.new }
     {
         if self.is_ident() {
             return Ok(PropOrSpread::Prop(Prop::Shorthand(self.ident(field, Role::Reference)?)));
         }
-        let node = self.open(field)?;
-        let less = inside(room)?;
-        let it = self.prop_or_spread_of(less, node)?;
-        self.close()?;
-        Ok(it)
+        let (node, room) = self.enter(room, field)?;
+        let it = self.prop_or_spread_of(room, node);
+        self.leave(it)
     }
 
     #[cycle(build)]
     #[tactic(auto, using(crate::proofs::Parsing::building))]
     fn prop_or_spread_of(&mut self, room: usize, node: Node<'a>) -> Result<PropOrSpread, BuildError>
-        ensures taken { IfOk result (λ made.
-            after_inside (taken room) (holds APropertyOrSpread (head_of node.entry)) self.old ≡ Some self.new) }
-        ensures made { IfOk result (λ made. (field : ℕ) (rest : List Item) →
-            self.new ≡ Close ∷ rest → Open field (head_of node.entry) ∷ self.old ≡ prop_or_spread_items field made ++ rest) }
-        ensures refused { IfErr result (λ why.
-            why ≡ Form → after_inside (taken room) (holds APropertyOrSpread (head_of node.entry)) self.old ≡ None) }
+        ensures { BuildsNode result prop_or_spread_items (head_of node.entry)
+            (after_inside (taken room) (holds APropertyOrSpread (head_of node.entry)) self.old)
+            self.old self.new }
     {
         match node {
             Node::SpreadElement => {
@@ -84,12 +73,9 @@ impl<'p, 'a> Builder<'p, 'a> {
     #[cycle(build)]
     #[tactic(auto, using(crate::proofs::Parsing::building))]
     fn prop_of(&mut self, room: usize, node: Node<'a>) -> Result<Prop, BuildError>
-        ensures taken { IfOk result (λ made.
-            after_inside (taken room) (holds AProperty (head_of node.entry)) self.old ≡ Some self.new) }
-        ensures made { IfOk result (λ made. (field : ℕ) (rest : List Item) →
-            self.new ≡ Close ∷ rest → Open field (head_of node.entry) ∷ self.old ≡ prop_items field made ++ rest) }
-        ensures refused { IfErr result (λ why.
-            why ≡ Form → after_inside (taken room) (holds AProperty (head_of node.entry)) self.old ≡ None) }
+        ensures { BuildsNode result prop_items (head_of node.entry)
+            (after_inside (taken room) (holds AProperty (head_of node.entry)) self.old)
+            self.old self.new }
     {
         match node {
             Node::KeyValueProp => Ok(Prop::KeyValueProp(self.key_value_prop_of(room, node)?)),
@@ -119,12 +105,9 @@ impl<'p, 'a> Builder<'p, 'a> {
         room: usize,
         field: u8,
     ) -> Result<Vec<KeyValueProp>, BuildError>
-        ensures taken { IfOk result (λ made.
-            after_each (taken room AKeyValue field) field (length self.old) self.old ≡ Some self.new) }
-        ensures made { IfOk result (λ made.
-            self.old ≡ flat_map (key_value_prop_items field) made.items ++ self.new) }
-        ensures refused { IfErr result (λ why.
-            why ≡ Form → after_each (taken room AKeyValue field) field (length self.old) self.old ≡ None) }
+        ensures { Builds result (λ made. flat_map (key_value_prop_items field) made.items)
+            (after_each (taken room AKeyValue field) field (length self.old) self.old)
+            self.old self.new }
     {
         let mut list = Vec::new(self.alloc);
         let most = self.most();
@@ -141,28 +124,20 @@ impl<'p, 'a> Builder<'p, 'a> {
 
     #[tactic(auto, using(crate::proofs::Parsing::building))]
     fn key_value_prop(&mut self, room: usize, field: u8) -> Result<KeyValueProp, BuildError>
-        ensures taken { IfOk result (λ made. taken room AKeyValue field self.old ≡ Some self.new) }
-        ensures made { IfOk result (λ made.
-            self.old ≡ key_value_prop_items field made ++ self.new) }
-        ensures refused { IfErr result (λ why.
-            why ≡ Form → taken room AKeyValue field self.old ≡ None) }
+        ensures { Builds result (key_value_prop_items field)
+            (taken room AKeyValue field self.old) self.old self.new }
     {
-        let node = self.open(field)?;
-        let less = inside(room)?;
-        let it = self.key_value_prop_of(less, node)?;
-        self.close()?;
-        Ok(it)
+        let (node, room) = self.enter(room, field)?;
+        let it = self.key_value_prop_of(room, node);
+        self.leave(it)
     }
 
     #[cycle(build)]
     #[tactic(auto, using(crate::proofs::Parsing::building))]
     fn key_value_prop_of(&mut self, room: usize, node: Node<'a>) -> Result<KeyValueProp, BuildError>
-        ensures taken { IfOk result (λ made.
-            after_inside (taken room) (holds AKeyValue (head_of node.entry)) self.old ≡ Some self.new) }
-        ensures made { IfOk result (λ made. (field : ℕ) (rest : List Item) →
-            self.new ≡ Close ∷ rest → Open field (head_of node.entry) ∷ self.old ≡ key_value_prop_items field made ++ rest) }
-        ensures refused { IfErr result (λ why.
-            why ≡ Form → after_inside (taken room) (holds AKeyValue (head_of node.entry)) self.old ≡ None) }
+        ensures { BuildsNode result key_value_prop_items (head_of node.entry)
+            (after_inside (taken room) (holds AKeyValue (head_of node.entry)) self.old)
+            self.old self.new }
     {
         match node {
             Node::KeyValueProp => {
@@ -181,12 +156,9 @@ impl<'p, 'a> Builder<'p, 'a> {
         room: usize,
         node: Node<'a>,
     ) -> Result<ComputedPropName, BuildError>
-        ensures taken { IfOk result (λ made.
-            after_inside (taken room) (holds AComputedKey (head_of node.entry)) self.old ≡ Some self.new) }
-        ensures made { IfOk result (λ made. (field : ℕ) (rest : List Item) →
-            self.new ≡ Close ∷ rest → Open field (head_of node.entry) ∷ self.old ≡ computed_prop_name_items field made ++ rest) }
-        ensures refused { IfErr result (λ why.
-            why ≡ Form → after_inside (taken room) (holds AComputedKey (head_of node.entry)) self.old ≡ None) }
+        ensures { BuildsNode result computed_prop_name_items (head_of node.entry)
+            (after_inside (taken room) (holds AComputedKey (head_of node.entry)) self.old)
+            self.old self.new }
     {
         match node {
             Node::ComputedPropName => {
@@ -200,26 +172,20 @@ impl<'p, 'a> Builder<'p, 'a> {
     #[cycle(build)]
     #[tactic(auto, using(crate::proofs::Parsing::building))]
     pub(crate) fn prop_name(&mut self, room: usize, field: u8) -> Result<PropName, BuildError>
-        ensures taken { IfOk result (λ made. taken room AKey field self.old ≡ Some self.new) }
-        ensures made { IfOk result (λ made. self.old ≡ prop_name_items field made ++ self.new) }
-        ensures refused { IfErr result (λ why. why ≡ Form → taken room AKey field self.old ≡ None) }
+        ensures { Builds result (prop_name_items field)
+            (taken room AKey field self.old) self.old self.new }
     {
-        let node = self.open(field)?;
-        let less = inside(room)?;
-        let it = self.prop_name_of(less, node)?;
-        self.close()?;
-        Ok(it)
+        let (node, room) = self.enter(room, field)?;
+        let it = self.prop_name_of(room, node);
+        self.leave(it)
     }
 
     #[cycle(build)]
     #[tactic(auto, using(crate::proofs::Parsing::building))]
     fn prop_name_of(&mut self, room: usize, node: Node<'a>) -> Result<PropName, BuildError>
-        ensures taken { IfOk result (λ made.
-            after_inside (taken room) (holds AKey (head_of node.entry)) self.old ≡ Some self.new) }
-        ensures made { IfOk result (λ made. (field : ℕ) (rest : List Item) →
-            self.new ≡ Close ∷ rest → Open field (head_of node.entry) ∷ self.old ≡ prop_name_items field made ++ rest) }
-        ensures refused { IfErr result (λ why.
-            why ≡ Form → after_inside (taken room) (holds AKey (head_of node.entry)) self.old ≡ None) }
+        ensures { BuildsNode result prop_name_items (head_of node.entry)
+            (after_inside (taken room) (holds AKey (head_of node.entry)) self.old)
+            self.old self.new }
     {
         match node {
             Node::IdentName { .. } => Ok(PropName::IdentName(self.ident_name_of(node)?)),
@@ -233,27 +199,20 @@ impl<'p, 'a> Builder<'p, 'a> {
     #[cycle(build)]
     #[tactic(auto, using(crate::proofs::Parsing::building))]
     pub(crate) fn member_prop(&mut self, room: usize, field: u8) -> Result<MemberProp, BuildError>
-        ensures taken { IfOk result (λ made. taken room AMemberKey field self.old ≡ Some self.new) }
-        ensures made { IfOk result (λ made. self.old ≡ member_prop_items field made ++ self.new) }
-        ensures refused { IfErr result (λ why.
-            why ≡ Form → taken room AMemberKey field self.old ≡ None) }
+        ensures { Builds result (member_prop_items field)
+            (taken room AMemberKey field self.old) self.old self.new }
     {
-        let node = self.open(field)?;
-        let less = inside(room)?;
-        let it = self.member_prop_of(less, node)?;
-        self.close()?;
-        Ok(it)
+        let (node, room) = self.enter(room, field)?;
+        let it = self.member_prop_of(room, node);
+        self.leave(it)
     }
 
     #[cycle(build)]
     #[tactic(auto, using(crate::proofs::Parsing::building))]
     fn member_prop_of(&mut self, room: usize, node: Node<'a>) -> Result<MemberProp, BuildError>
-        ensures taken { IfOk result (λ made.
-            after_inside (taken room) (holds AMemberKey (head_of node.entry)) self.old ≡ Some self.new) }
-        ensures made { IfOk result (λ made. (field : ℕ) (rest : List Item) →
-            self.new ≡ Close ∷ rest → Open field (head_of node.entry) ∷ self.old ≡ member_prop_items field made ++ rest) }
-        ensures refused { IfErr result (λ why.
-            why ≡ Form → after_inside (taken room) (holds AMemberKey (head_of node.entry)) self.old ≡ None) }
+        ensures { BuildsNode result member_prop_items (head_of node.entry)
+            (after_inside (taken room) (holds AMemberKey (head_of node.entry)) self.old)
+            self.old self.new }
     {
         match node {
             Node::IdentName { .. } => Ok(MemberProp::IdentName(self.ident_name_of(node)?)),
@@ -265,27 +224,20 @@ impl<'p, 'a> Builder<'p, 'a> {
     #[cycle(build)]
     #[tactic(auto, using(crate::proofs::Parsing::building))]
     pub(crate) fn super_prop(&mut self, room: usize, field: u8) -> Result<SuperProp, BuildError>
-        ensures taken { IfOk result (λ made. taken room ASuperKey field self.old ≡ Some self.new) }
-        ensures made { IfOk result (λ made. self.old ≡ super_prop_items field made ++ self.new) }
-        ensures refused { IfErr result (λ why.
-            why ≡ Form → taken room ASuperKey field self.old ≡ None) }
+        ensures { Builds result (super_prop_items field)
+            (taken room ASuperKey field self.old) self.old self.new }
     {
-        let node = self.open(field)?;
-        let less = inside(room)?;
-        let it = self.super_prop_of(less, node)?;
-        self.close()?;
-        Ok(it)
+        let (node, room) = self.enter(room, field)?;
+        let it = self.super_prop_of(room, node);
+        self.leave(it)
     }
 
     #[cycle(build)]
     #[tactic(auto, using(crate::proofs::Parsing::building))]
     fn super_prop_of(&mut self, room: usize, node: Node<'a>) -> Result<SuperProp, BuildError>
-        ensures taken { IfOk result (λ made.
-            after_inside (taken room) (holds ASuperKey (head_of node.entry)) self.old ≡ Some self.new) }
-        ensures made { IfOk result (λ made. (field : ℕ) (rest : List Item) →
-            self.new ≡ Close ∷ rest → Open field (head_of node.entry) ∷ self.old ≡ super_prop_items field made ++ rest) }
-        ensures refused { IfErr result (λ why.
-            why ≡ Form → after_inside (taken room) (holds ASuperKey (head_of node.entry)) self.old ≡ None) }
+        ensures { BuildsNode result super_prop_items (head_of node.entry)
+            (after_inside (taken room) (holds ASuperKey (head_of node.entry)) self.old)
+            self.old self.new }
     {
         match node {
             Node::IdentName { .. } => Ok(SuperProp::IdentName(self.ident_name_of(node)?)),

@@ -1,13 +1,14 @@
 //! Statements (ECMA-262, 14).
 
-ghost use Rattle.std.specs.Prelude.{◌≡◌, ◌∷◌, ◌++◌, ℕ, List, Some, None, IfOk, IfErr, length};
-ghost use Rattle.bundle_syntax.specs.Item.{head_of, Item, Open, Close};
+ghost use Rattle.std.specs.Prelude.{Some, None, length};
+ghost use Rattle.bundle_syntax.specs.Item.{head_of};
 ghost use Rattle.bundle_tree_parse.specs.declared.build.BuildError.TheVariants.{Form};
 ghost use Rattle.bundle_tree_listed.specs.Tree.{block_stmt_items, catch_clause_items, each_stmt_items, each_switch_case_items, for_head_items, for_init_items, option_block_stmt_items, option_boxed_stmt_items, option_catch_clause_items, option_for_init_items, stmt_items, switch_case_items};
+ghost use Rattle.bundle_tree_parse.specs.Built.{Builds, BuildsNode};
 ghost use Rattle.bundle_tree_parse.specs.Sorts.{AStmt, APlainStmt, ABranchStmt, ALoop, AFor, ABlock, ACase, AHandler, AnInit, ALoopHead, holds};
 ghost use Rattle.bundle_tree_parse.specs.Parse.{after_maybe, after_each, after_inside, taken};
 
-use crate::build::{BuildError, Builder, inside};
+use crate::build::{BuildError, Builder};
 use bundle_syntax::{Node, Role};
 use bundle_tree_ast::{BlockStmt, CatchClause, Expr, ForHead, ForInit, Pat, Stmt, SwitchCase};
 
@@ -15,27 +16,20 @@ impl<'p, 'a> Builder<'p, 'a> {
     #[cycle(build)]
     #[tactic(auto, using(crate::proofs::Parsing::building))]
     fn stmt(&mut self, room: usize, field: u8) -> Result<Stmt, BuildError>
-        ensures taken { IfOk result (λ made. taken room AStmt field self.old ≡ Some self.new) }
-        ensures made { IfOk result (λ made. self.old ≡ stmt_items field made ++ self.new) }
-        ensures refused { IfErr result (λ why.
-            why ≡ Form → taken room AStmt field self.old ≡ None) }
+        ensures { Builds result (stmt_items field)
+            (taken room AStmt field self.old) self.old self.new }
     {
-        let node = self.open(field)?;
-        let less = inside(room)?;
-        let it = self.stmt_of(less, node)?;
-        self.close()?;
-        Ok(it)
+        let (node, room) = self.enter(room, field)?;
+        let it = self.stmt_of(room, node);
+        self.leave(it)
     }
 
     #[cycle(build)]
     #[tactic(auto, using(crate::proofs::Parsing::building))]
     pub(crate) fn stmt_of(&mut self, room: usize, node: Node<'a>) -> Result<Stmt, BuildError>
-        ensures taken { IfOk result (λ made.
-            after_inside (taken room) (holds AStmt (head_of node.entry)) self.old ≡ Some self.new) }
-        ensures made { IfOk result (λ made. (field : ℕ) (rest : List Item) →
-            self.new ≡ Close ∷ rest → Open field (head_of node.entry) ∷ self.old ≡ stmt_items field made ++ rest) }
-        ensures refused { IfErr result (λ why.
-            why ≡ Form → after_inside (taken room) (holds AStmt (head_of node.entry)) self.old ≡ None) }
+        ensures { BuildsNode result stmt_items (head_of node.entry)
+            (after_inside (taken room) (holds AStmt (head_of node.entry)) self.old)
+            self.old self.new }
     {
         match node {
             Node::BlockStmt => Ok(Stmt::BlockStmt(self.block_stmt_of(room, node)?)),
@@ -66,12 +60,9 @@ impl<'p, 'a> Builder<'p, 'a> {
     #[cycle(build)]
     #[tactic(auto, using(crate::proofs::Parsing::building))]
     fn plain_stmt_of(&mut self, room: usize, node: Node<'a>) -> Result<Stmt, BuildError>
-        ensures taken { IfOk result (λ made.
-            after_inside (taken room) (holds APlainStmt (head_of node.entry)) self.old ≡ Some self.new) }
-        ensures made { IfOk result (λ made. (field : ℕ) (rest : List Item) →
-            self.new ≡ Close ∷ rest → Open field (head_of node.entry) ∷ self.old ≡ stmt_items field made ++ rest) }
-        ensures refused { IfErr result (λ why.
-            why ≡ Form → after_inside (taken room) (holds APlainStmt (head_of node.entry)) self.old ≡ None) }
+        ensures { BuildsNode result stmt_items (head_of node.entry)
+            (after_inside (taken room) (holds APlainStmt (head_of node.entry)) self.old)
+            self.old self.new }
     {
         match node {
             Node::ExprStmt => {
@@ -93,12 +84,9 @@ impl<'p, 'a> Builder<'p, 'a> {
     #[cycle(build)]
     #[tactic(auto, using(crate::proofs::Parsing::building))]
     fn branch_stmt_of(&mut self, room: usize, node: Node<'a>) -> Result<Stmt, BuildError>
-        ensures taken { IfOk result (λ made.
-            after_inside (taken room) (holds ABranchStmt (head_of node.entry)) self.old ≡ Some self.new) }
-        ensures made { IfOk result (λ made. (field : ℕ) (rest : List Item) →
-            self.new ≡ Close ∷ rest → Open field (head_of node.entry) ∷ self.old ≡ stmt_items field made ++ rest) }
-        ensures refused { IfErr result (λ why.
-            why ≡ Form → after_inside (taken room) (holds ABranchStmt (head_of node.entry)) self.old ≡ None) }
+        ensures { BuildsNode result stmt_items (head_of node.entry)
+            (after_inside (taken room) (holds ABranchStmt (head_of node.entry)) self.old)
+            self.old self.new }
     {
         match node {
             Node::IfStmt => {
@@ -142,12 +130,9 @@ impl<'p, 'a> Builder<'p, 'a> {
     #[cycle(build)]
     #[tactic(auto, using(crate::proofs::Parsing::building))]
     fn loop_stmt_of(&mut self, room: usize, node: Node<'a>) -> Result<Stmt, BuildError>
-        ensures taken { IfOk result (λ made.
-            after_inside (taken room) (holds ALoop (head_of node.entry)) self.old ≡ Some self.new) }
-        ensures made { IfOk result (λ made. (field : ℕ) (rest : List Item) →
-            self.new ≡ Close ∷ rest → Open field (head_of node.entry) ∷ self.old ≡ stmt_items field made ++ rest) }
-        ensures refused { IfErr result (λ why.
-            why ≡ Form → after_inside (taken room) (holds ALoop (head_of node.entry)) self.old ≡ None) }
+        ensures { BuildsNode result stmt_items (head_of node.entry)
+            (after_inside (taken room) (holds ALoop (head_of node.entry)) self.old)
+            self.old self.new }
     {
         match node {
             Node::WhileStmt => {
@@ -167,12 +152,9 @@ impl<'p, 'a> Builder<'p, 'a> {
     #[cycle(build)]
     #[tactic(auto, using(crate::proofs::Parsing::building))]
     fn for_stmt_of(&mut self, room: usize, node: Node<'a>) -> Result<Stmt, BuildError>
-        ensures taken { IfOk result (λ made.
-            after_inside (taken room) (holds AFor (head_of node.entry)) self.old ≡ Some self.new) }
-        ensures made { IfOk result (λ made. (field : ℕ) (rest : List Item) →
-            self.new ≡ Close ∷ rest → Open field (head_of node.entry) ∷ self.old ≡ stmt_items field made ++ rest) }
-        ensures refused { IfErr result (λ why.
-            why ≡ Form → after_inside (taken room) (holds AFor (head_of node.entry)) self.old ≡ None) }
+        ensures { BuildsNode result stmt_items (head_of node.entry)
+            (after_inside (taken room) (holds AFor (head_of node.entry)) self.old)
+            self.old self.new }
     {
         match node {
             Node::ForStmt => {
@@ -211,24 +193,18 @@ impl<'p, 'a> Builder<'p, 'a> {
     #[cycle(build)]
     #[tactic(auto, using(crate::proofs::Parsing::building))]
     fn boxed_stmt(&mut self, room: usize, field: u8) -> Result<Box<Stmt>, BuildError>
-        ensures taken { IfOk result (λ made. taken room AStmt field self.old ≡ Some self.new) }
-        ensures made { IfOk result (λ made. self.old ≡ stmt_items field made.value ++ self.new) }
-        ensures refused { IfErr result (λ why.
-            why ≡ Form → taken room AStmt field self.old ≡ None) }
+        ensures { Builds result (λ made. stmt_items field made.value)
+            (taken room AStmt field self.old) self.old self.new }
     {
-        let it = self.stmt(room, field)?;
-        Ok(Box::new(self.alloc, it)?)
+        let it = self.stmt(room, field);
+        self.boxed(it)
     }
 
     #[cycle(build)]
     #[tactic(auto, using(crate::proofs::Parsing::building))]
     fn option_boxed_stmt(&mut self, room: usize, field: u8) -> Result<Option<Box<Stmt>>, BuildError>
-        ensures taken { IfOk result (λ made.
-            after_maybe (taken room AStmt field) field self.old ≡ Some self.new) }
-        ensures made { IfOk result (λ made.
-            self.old ≡ option_boxed_stmt_items field made ++ self.new) }
-        ensures refused { IfErr result (λ why.
-            why ≡ Form → after_maybe (taken room AStmt field) field self.old ≡ None) }
+        ensures { Builds result (option_boxed_stmt_items field)
+            (after_maybe (taken room AStmt field) field self.old) self.old self.new }
     {
         if self.is_in(field) {
             Ok(Some(self.boxed_stmt(room, field)?))
@@ -240,11 +216,9 @@ impl<'p, 'a> Builder<'p, 'a> {
     #[cycle(build)]
     #[tactic(auto, using(crate::proofs::Parsing::building))]
     fn each_stmt(&mut self, room: usize, field: u8) -> Result<Vec<Stmt>, BuildError>
-        ensures taken { IfOk result (λ made.
-            after_each (taken room AStmt field) field (length self.old) self.old ≡ Some self.new) }
-        ensures made { IfOk result (λ made. self.old ≡ each_stmt_items field made ++ self.new) }
-        ensures refused { IfErr result (λ why.
-            why ≡ Form → after_each (taken room AStmt field) field (length self.old) self.old ≡ None) }
+        ensures { Builds result (each_stmt_items field)
+            (after_each (taken room AStmt field) field (length self.old) self.old)
+            self.old self.new }
     {
         let mut list = Vec::new(self.alloc);
         let most = self.most();
@@ -262,16 +236,12 @@ impl<'p, 'a> Builder<'p, 'a> {
     #[cycle(build)]
     #[tactic(auto, using(crate::proofs::Parsing::building))]
     pub(crate) fn block_stmt(&mut self, room: usize, field: u8) -> Result<BlockStmt, BuildError>
-        ensures taken { IfOk result (λ made. taken room ABlock field self.old ≡ Some self.new) }
-        ensures made { IfOk result (λ made. self.old ≡ block_stmt_items field made ++ self.new) }
-        ensures refused { IfErr result (λ why.
-            why ≡ Form → taken room ABlock field self.old ≡ None) }
+        ensures { Builds result (block_stmt_items field)
+            (taken room ABlock field self.old) self.old self.new }
     {
-        let node = self.open(field)?;
-        let less = inside(room)?;
-        let it = self.block_stmt_of(less, node)?;
-        self.close()?;
-        Ok(it)
+        let (node, room) = self.enter(room, field)?;
+        let it = self.block_stmt_of(room, node);
+        self.leave(it)
     }
 
     #[cycle(build)]
@@ -281,12 +251,9 @@ impl<'p, 'a> Builder<'p, 'a> {
         room: usize,
         node: Node<'a>,
     ) -> Result<BlockStmt, BuildError>
-        ensures taken { IfOk result (λ made.
-            after_inside (taken room) (holds ABlock (head_of node.entry)) self.old ≡ Some self.new) }
-        ensures made { IfOk result (λ made. (field : ℕ) (rest : List Item) →
-            self.new ≡ Close ∷ rest → Open field (head_of node.entry) ∷ self.old ≡ block_stmt_items field made ++ rest) }
-        ensures refused { IfErr result (λ why.
-            why ≡ Form → after_inside (taken room) (holds ABlock (head_of node.entry)) self.old ≡ None) }
+        ensures { BuildsNode result block_stmt_items (head_of node.entry)
+            (after_inside (taken room) (holds ABlock (head_of node.entry)) self.old)
+            self.old self.new }
     {
         match node {
             Node::BlockStmt => {
@@ -300,12 +267,8 @@ impl<'p, 'a> Builder<'p, 'a> {
     #[cycle(build)]
     #[tactic(auto, using(crate::proofs::Parsing::building))]
     fn option_block_stmt(&mut self, room: usize, field: u8) -> Result<Option<BlockStmt>, BuildError>
-        ensures taken { IfOk result (λ made.
-            after_maybe (taken room ABlock field) field self.old ≡ Some self.new) }
-        ensures made { IfOk result (λ made.
-            self.old ≡ option_block_stmt_items field made ++ self.new) }
-        ensures refused { IfErr result (λ why.
-            why ≡ Form → after_maybe (taken room ABlock field) field self.old ≡ None) }
+        ensures { Builds result (option_block_stmt_items field)
+            (after_maybe (taken room ABlock field) field self.old) self.old self.new }
     {
         if self.is_in(field) {
             Ok(Some(self.block_stmt(room, field)?))
@@ -317,12 +280,9 @@ impl<'p, 'a> Builder<'p, 'a> {
     #[cycle(build)]
     #[tactic(auto, using(crate::proofs::Parsing::building))]
     fn each_switch_case(&mut self, room: usize, field: u8) -> Result<Vec<SwitchCase>, BuildError>
-        ensures taken { IfOk result (λ made.
-            after_each (taken room ACase field) field (length self.old) self.old ≡ Some self.new) }
-        ensures made { IfOk result (λ made.
-            self.old ≡ each_switch_case_items field made ++ self.new) }
-        ensures refused { IfErr result (λ why.
-            why ≡ Form → after_each (taken room ACase field) field (length self.old) self.old ≡ None) }
+        ensures { Builds result (each_switch_case_items field)
+            (after_each (taken room ACase field) field (length self.old) self.old)
+            self.old self.new }
     {
         let mut list = Vec::new(self.alloc);
         let most = self.most();
@@ -340,27 +300,20 @@ impl<'p, 'a> Builder<'p, 'a> {
     #[cycle(build)]
     #[tactic(auto, using(crate::proofs::Parsing::building))]
     fn switch_case(&mut self, room: usize, field: u8) -> Result<SwitchCase, BuildError>
-        ensures taken { IfOk result (λ made. taken room ACase field self.old ≡ Some self.new) }
-        ensures made { IfOk result (λ made. self.old ≡ switch_case_items field made ++ self.new) }
-        ensures refused { IfErr result (λ why.
-            why ≡ Form → taken room ACase field self.old ≡ None) }
+        ensures { Builds result (switch_case_items field)
+            (taken room ACase field self.old) self.old self.new }
     {
-        let node = self.open(field)?;
-        let less = inside(room)?;
-        let it = self.switch_case_of(less, node)?;
-        self.close()?;
-        Ok(it)
+        let (node, room) = self.enter(room, field)?;
+        let it = self.switch_case_of(room, node);
+        self.leave(it)
     }
 
     #[cycle(build)]
     #[tactic(auto, using(crate::proofs::Parsing::building))]
     fn switch_case_of(&mut self, room: usize, node: Node<'a>) -> Result<SwitchCase, BuildError>
-        ensures taken { IfOk result (λ made.
-            after_inside (taken room) (holds ACase (head_of node.entry)) self.old ≡ Some self.new) }
-        ensures made { IfOk result (λ made. (field : ℕ) (rest : List Item) →
-            self.new ≡ Close ∷ rest → Open field (head_of node.entry) ∷ self.old ≡ switch_case_items field made ++ rest) }
-        ensures refused { IfErr result (λ why.
-            why ≡ Form → after_inside (taken room) (holds ACase (head_of node.entry)) self.old ≡ None) }
+        ensures { BuildsNode result switch_case_items (head_of node.entry)
+            (after_inside (taken room) (holds ACase (head_of node.entry)) self.old)
+            self.old self.new }
     {
         match node {
             Node::SwitchCase => {
@@ -379,12 +332,8 @@ impl<'p, 'a> Builder<'p, 'a> {
         room: usize,
         field: u8,
     ) -> Result<Option<CatchClause>, BuildError>
-        ensures taken { IfOk result (λ made.
-            after_maybe (taken room AHandler field) field self.old ≡ Some self.new) }
-        ensures made { IfOk result (λ made.
-            self.old ≡ option_catch_clause_items field made ++ self.new) }
-        ensures refused { IfErr result (λ why.
-            why ≡ Form → after_maybe (taken room AHandler field) field self.old ≡ None) }
+        ensures { Builds result (option_catch_clause_items field)
+            (after_maybe (taken room AHandler field) field self.old) self.old self.new }
     {
         if self.is_in(field) {
             Ok(Some(self.catch_clause(room, field)?))
@@ -396,27 +345,20 @@ impl<'p, 'a> Builder<'p, 'a> {
     #[cycle(build)]
     #[tactic(auto, using(crate::proofs::Parsing::building))]
     fn catch_clause(&mut self, room: usize, field: u8) -> Result<CatchClause, BuildError>
-        ensures taken { IfOk result (λ made. taken room AHandler field self.old ≡ Some self.new) }
-        ensures made { IfOk result (λ made. self.old ≡ catch_clause_items field made ++ self.new) }
-        ensures refused { IfErr result (λ why.
-            why ≡ Form → taken room AHandler field self.old ≡ None) }
+        ensures { Builds result (catch_clause_items field)
+            (taken room AHandler field self.old) self.old self.new }
     {
-        let node = self.open(field)?;
-        let less = inside(room)?;
-        let it = self.catch_clause_of(less, node)?;
-        self.close()?;
-        Ok(it)
+        let (node, room) = self.enter(room, field)?;
+        let it = self.catch_clause_of(room, node);
+        self.leave(it)
     }
 
     #[cycle(build)]
     #[tactic(auto, using(crate::proofs::Parsing::building))]
     fn catch_clause_of(&mut self, room: usize, node: Node<'a>) -> Result<CatchClause, BuildError>
-        ensures taken { IfOk result (λ made.
-            after_inside (taken room) (holds AHandler (head_of node.entry)) self.old ≡ Some self.new) }
-        ensures made { IfOk result (λ made. (field : ℕ) (rest : List Item) →
-            self.new ≡ Close ∷ rest → Open field (head_of node.entry) ∷ self.old ≡ catch_clause_items field made ++ rest) }
-        ensures refused { IfErr result (λ why.
-            why ≡ Form → after_inside (taken room) (holds AHandler (head_of node.entry)) self.old ≡ None) }
+        ensures { BuildsNode result catch_clause_items (head_of node.entry)
+            (after_inside (taken room) (holds AHandler (head_of node.entry)) self.old)
+            self.old self.new }
     {
         match node {
             Node::CatchClause => {
@@ -431,12 +373,8 @@ impl<'p, 'a> Builder<'p, 'a> {
     #[cycle(build)]
     #[tactic(auto, using(crate::proofs::Parsing::building))]
     fn option_for_init(&mut self, room: usize, field: u8) -> Result<Option<ForInit>, BuildError>
-        ensures taken { IfOk result (λ made.
-            after_maybe (taken room AnInit field) field self.old ≡ Some self.new) }
-        ensures made { IfOk result (λ made.
-            self.old ≡ option_for_init_items field made ++ self.new) }
-        ensures refused { IfErr result (λ why.
-            why ≡ Form → after_maybe (taken room AnInit field) field self.old ≡ None) }
+        ensures { Builds result (option_for_init_items field)
+            (after_maybe (taken room AnInit field) field self.old) self.old self.new }
     {
         if self.is_in(field) {
             Ok(Some(self.for_init(room, field)?))
@@ -448,30 +386,23 @@ impl<'p, 'a> Builder<'p, 'a> {
     #[cycle(build)]
     #[tactic(auto, using(crate::proofs::Parsing::building))]
     fn for_init(&mut self, room: usize, field: u8) -> Result<ForInit, BuildError>
-        ensures taken { IfOk result (λ made. taken room AnInit field self.old ≡ Some self.new) }
-        ensures made { IfOk result (λ made. self.old ≡ for_init_items field made ++ self.new) }
-        ensures refused { IfErr result (λ why.
-            why ≡ Form → taken room AnInit field self.old ≡ None) }
+        ensures { Builds result (for_init_items field)
+            (taken room AnInit field self.old) self.old self.new }
     {
         if self.is_ident() {
             return Ok(ForInit::Expr(Expr::Ident(self.ident(field, Role::Reference)?)));
         }
-        let node = self.open(field)?;
-        let less = inside(room)?;
-        let it = self.for_init_of(less, node)?;
-        self.close()?;
-        Ok(it)
+        let (node, room) = self.enter(room, field)?;
+        let it = self.for_init_of(room, node);
+        self.leave(it)
     }
 
     #[cycle(build)]
     #[tactic(auto, using(crate::proofs::Parsing::building))]
     fn for_init_of(&mut self, room: usize, node: Node<'a>) -> Result<ForInit, BuildError>
-        ensures taken { IfOk result (λ made.
-            after_inside (taken room) (holds AnInit (head_of node.entry)) self.old ≡ Some self.new) }
-        ensures made { IfOk result (λ made. (field : ℕ) (rest : List Item) →
-            self.new ≡ Close ∷ rest → Open field (head_of node.entry) ∷ self.old ≡ for_init_items field made ++ rest) }
-        ensures refused { IfErr result (λ why.
-            why ≡ Form → after_inside (taken room) (holds AnInit (head_of node.entry)) self.old ≡ None) }
+        ensures { BuildsNode result for_init_items (head_of node.entry)
+            (after_inside (taken room) (holds AnInit (head_of node.entry)) self.old)
+            self.old self.new }
     {
         match node {
             Node::VarDecl { .. } => Ok(ForInit::VarDecl(self.var_decl_of(room, node)?)),
@@ -482,30 +413,23 @@ impl<'p, 'a> Builder<'p, 'a> {
     #[cycle(build)]
     #[tactic(auto, using(crate::proofs::Parsing::building))]
     fn for_head(&mut self, room: usize, field: u8) -> Result<ForHead, BuildError>
-        ensures taken { IfOk result (λ made. taken room ALoopHead field self.old ≡ Some self.new) }
-        ensures made { IfOk result (λ made. self.old ≡ for_head_items field made ++ self.new) }
-        ensures refused { IfErr result (λ why.
-            why ≡ Form → taken room ALoopHead field self.old ≡ None) }
+        ensures { Builds result (for_head_items field)
+            (taken room ALoopHead field self.old) self.old self.new }
     {
         if self.is_ident() {
             return Ok(ForHead::Pat(Pat::Expr(self.boxed_ident(field)?)));
         }
-        let node = self.open(field)?;
-        let less = inside(room)?;
-        let it = self.for_head_of(less, node)?;
-        self.close()?;
-        Ok(it)
+        let (node, room) = self.enter(room, field)?;
+        let it = self.for_head_of(room, node);
+        self.leave(it)
     }
 
     #[cycle(build)]
     #[tactic(auto, using(crate::proofs::Parsing::building))]
     fn for_head_of(&mut self, room: usize, node: Node<'a>) -> Result<ForHead, BuildError>
-        ensures taken { IfOk result (λ made.
-            after_inside (taken room) (holds ALoopHead (head_of node.entry)) self.old ≡ Some self.new) }
-        ensures made { IfOk result (λ made. (field : ℕ) (rest : List Item) →
-            self.new ≡ Close ∷ rest → Open field (head_of node.entry) ∷ self.old ≡ for_head_items field made ++ rest) }
-        ensures refused { IfErr result (λ why.
-            why ≡ Form → after_inside (taken room) (holds ALoopHead (head_of node.entry)) self.old ≡ None) }
+        ensures { BuildsNode result for_head_items (head_of node.entry)
+            (after_inside (taken room) (holds ALoopHead (head_of node.entry)) self.old)
+            self.old self.new }
     {
         match node {
             Node::VarDecl { .. } => Ok(ForHead::VarDecl(self.var_decl_of(room, node)?)),

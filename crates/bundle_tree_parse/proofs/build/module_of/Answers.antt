@@ -11,4 +11,4 @@ at_error result why P is holds = subst (λ r. IfErr r P) (sym is) holds
 pub returns-in_err-module-clause-refused : goal.returns-in_err-module-clause-refused
 returns-in_err-module-clause-refused c =
     at_error c.from_residual.result c.in_err-module.field-0.0 _ (grind (arith, common_steps))
-    (λ form. no_list c.args.pieces.now (c.in_err-module.ensures.refused form))
+    (λ form. no_list c.args.pieces.now (c.in_err-module.ensures form))
