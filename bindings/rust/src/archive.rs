@@ -3,7 +3,7 @@
 /// An answer of the archive: its status and its text.
 pub(crate) struct Answer {
     pub(crate) status: u32,
-    pub(crate) text: Vec<u8>,
+    pub(crate) text: String,
 }
 
 extern "C" {
@@ -43,12 +43,6 @@ extern "C" {
 
 /// The status of an answer that has no room.
 const NO_ROOM: u32 = 3;
-
-/// The text of an answer. All of them are UTF-8.
-pub(crate) fn text_in(answer: Vec<u8>) -> String {
-    String::from_utf8(answer)
-        .unwrap_or_else(|wrong| String::from_utf8_lossy(wrong.as_bytes()).into_owned())
-}
 
 /// The bundles of a document, or its refusal.
 pub(crate) fn bundle(document: &[u8]) -> Answer {
@@ -111,5 +105,8 @@ fn answered(room: usize, mut call: impl FnMut(*mut u8, usize, &mut usize) -> u32
     // SAFETY: the archive wrote so many bytes, for which there was room.
     unsafe { text.set_len(if status == NO_ROOM { 0 } else { written }) };
     text.shrink_to_fit();
+    debug_assert!(std::str::from_utf8(&text).is_ok());
+    // SAFETY: an answer is UTF-8: the contract of each call has it (`IsHandedOver` of crates/gutsirava_c).
+    let text = unsafe { String::from_utf8_unchecked(text) };
     Answer { status, text }
 }

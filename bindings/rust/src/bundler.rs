@@ -155,6 +155,6 @@ fn bundle_of(bundle: &Json) -> Result<Bundle, Error> {
             name: text_of("name"),
         },
         id: text_of("id"),
-        code: archive::text_in(printed.text),
+        code: printed.text,
     })
 }

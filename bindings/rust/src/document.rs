@@ -7,7 +7,7 @@ use crate::error::Error;
 pub fn bundles(document: &[u8]) -> Result<String, Error> {
     let answer = archive::bundle(document);
     match answer.status {
-        0 => Ok(archive::text_in(answer.text)),
+        0 => Ok(answer.text),
         _ => Err(Error::told(&answer.text)),
     }
 }

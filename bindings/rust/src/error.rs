@@ -148,9 +148,8 @@ impl Error {
     }
 
     // What the linker refuses with: a line `error N: Name`, and a line with an object that has the file and the name.
-    pub(crate) fn told(text: &[u8]) -> Error {
-        let text = String::from_utf8_lossy(text);
-        let (line, place) = text.split_once('\n').unwrap_or((&text, ""));
+    pub(crate) fn told(text: &str) -> Error {
+        let (line, place) = text.split_once('\n').unwrap_or((text, ""));
         let place = Json::read(place).unwrap_or(Json::Null);
         let text_of = |key: &str| place.get(key).and_then(Json::as_str).map(str::to_owned);
         Error {
@@ -228,12 +227,12 @@ pub struct SyntaxError {
 
 impl SyntaxError {
     // What a line `error LINE:COLUMN: what is wrong` tells.
-    pub(crate) fn told(line: &[u8]) -> SyntaxError {
-        let line = String::from_utf8_lossy(line).trim_end().to_owned();
-        Self::parts(&line).unwrap_or(SyntaxError {
+    pub(crate) fn told(line: &str) -> SyntaxError {
+        let line = line.trim_end();
+        Self::parts(line).unwrap_or(SyntaxError {
             line: 1,
             column: 1,
-            message: line,
+            message: line.to_owned(),
         })
     }
 

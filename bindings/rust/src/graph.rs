@@ -247,7 +247,7 @@ impl File {
             let is_memory = refusal.kind() == ErrorKind::OutOfMemory;
             return Err(if is_memory { refusal } else { wrong.at(name) });
         }
-        match form_of(answer.text) {
+        match form_of(&answer.text) {
             Some(form) => Ok(File {
                 name,
                 form,
@@ -322,8 +322,8 @@ impl File {
 }
 
 // The form of a tree, where a document may be so deep.
-fn form_of(text: Vec<u8>) -> Option<Json> {
-    let form = Json::read(&String::from_utf8(text).ok()?)?;
+fn form_of(text: &str) -> Option<Json> {
+    let form = Json::read(text)?;
     (form.depth() + DEPTH_OF_MODULES <= MOST_DEPTH).then_some(form)
 }
 

@@ -174,7 +174,7 @@ where
     ]);
     let answer = archive::bundle_sources(request.to_string().as_bytes());
     let status = answer.status;
-    let told = Json::read(&archive::text_in(answer.text)).unwrap_or(Json::Null);
+    let told = Json::read(&answer.text).unwrap_or(Json::Null);
     let messages = list_of(&told, "messages", message);
     match status {
         0 => Ok(SourceBundles {

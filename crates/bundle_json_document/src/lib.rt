@@ -18,9 +18,10 @@ mod writing;
 
 pub use answering::{answer, answer_text};
 pub use document::Document;
+pub use error::DocumentError;
 pub use input::{Input, InputError};
 pub use output::Output;
 pub use parties::MetaHook;
-pub use read::read_document;
+pub use read::{parse_document, read_document};
 pub use running::run;
 pub use text::bundles_text;

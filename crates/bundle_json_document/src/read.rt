@@ -53,22 +53,25 @@ pub fn read_document<R: Input, E: Output>(
             return Err(refuse(errors, b"error 22: OutOfMemory\n", 1));
         }
     };
-    match judged(alloc, text.as_slice()) {
-        Ok((document, lists)) => Ok((document, MetaHook::new(lists))),
+    match parse_document(alloc, text.as_slice()) {
+        Ok(made) => Ok(made),
         Err(DocumentError::Form) => Err(refuse(errors, b"error: document\n", 2)),
         Err(DocumentError::OutOfMemory) => Err(refuse(errors, b"error 22: OutOfMemory\n", 1)),
     }
 }
 
-// The document in a text, and the lists of properties.
-fn judged(alloc: Global, text: &[u8]) -> Result<(Document, Lists), DocumentError>
-    ensures ok { IfOk result (λ made. IsDocumentText text.now made.0 made.1.entries) }
+/// The document in a text, with the properties of `import.meta` that it lists. Nothing of it borrows from the text.
+///
+/// Refused where the text is that of no document, and for memory.
+pub fn parse_document(alloc: Global, text: &[u8]) -> Result<(Document, MetaHook), DocumentError>
+    ensures document { IfOk result (λ made. IsDocumentText text.now made.0 (hook_lists made.1)) }
     ensures refused { IfErr result (RefusesFor (IsNoDocumentText text.now)) }
 {
-    match from_utf8(text) {
-        Ok(text) => document_in(alloc, text),
-        Err(_) => Err(DocumentError::Form),
-    }
+    let Ok(text) = from_utf8(text) else {
+        return Err(DocumentError::Form);
+    };
+    let (document, lists) = document_in(alloc, text)?;
+    Ok((document, MetaHook::new(lists)))
 }
 
 // The document in a text. What is refused as it is read is judged once more as one value: of equal keys the

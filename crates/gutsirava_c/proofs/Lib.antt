@@ -1,4 +1,5 @@
 mod Asked
+mod Forms
 mod Listed
 mod Reading
 mod Told

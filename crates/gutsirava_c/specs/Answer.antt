@@ -1,5 +1,5 @@
 -- The answer to an input, and how it is handed over.
-use Rattle.std.specs.Prelude.{◌≡◌, ◌<◌, ◌≤◌, ◌⊎◌, ℕ, List, [], ◌++◌, Some, codes, drop, length}
+use Rattle.std.specs.Prelude.{◌≡◌, ◌<◌, ◌≤◌, ◌⊎◌, ℕ, List, [], ◌++◌, Some, IsUtf8, codes, drop, length}
 use Rattle.bundle_tree_names.specs.declared.error.Error.{Error}
 use Rattle.bundle_tree_names.specs.declared.error.Error.TheVariants.{OutOfMemory}
 use Rattle.bundle_json_document.specs.Document.{IsNoDocumentText}
@@ -30,10 +30,11 @@ IsAnswer input status answer =
     ⊎ ((status ≡ 1) × IsRefusalAnswer input answer)
     ⊎ ((status ≡ 2) × IsNoDocumentAnswer input answer)
 
--- where the room is wide enough the answer stands at its front, and its status is the result; else
--- the result is 3, and the room is as it was. `written` is the answer's length
+-- the answer is UTF-8. Where the room is wide enough it stands at its front, and its status is the
+-- result; else the result is 3, and the room is as it was. `written` is the answer's length
 pub record IsHandedOver (status : ℕ) (answer : List ℕ) (result written : ℕ)
     (old new : List ℕ) : Type 0 where
+  pub utf8 : IsUtf8 answer
   pub counted : written ≡ length answer
   pub status_of : length answer ≤ length old → result ≡ status
   pub stands : length answer ≤ length old → new ≡ answer ++ drop (length answer) old

@@ -21,7 +21,7 @@ pub extern "C" fn gutsirava_bundle(
         × IsHandedOver status answer result written.new output.old output.new }
 {
     match reply_to(alloc, input) {
-        Ok(reply) => hand_over(reply.status, reply.text.as_bytes(), output, written),
+        Ok(reply) => hand_over(reply.status, reply.text.as_str(), output, written),
         Err(_) => hand_over(1, NO_MEMORY, output, written),
     }
 }

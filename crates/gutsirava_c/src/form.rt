@@ -1,8 +1,10 @@
 //! JavaScript to the JSON form of its tree.
 
-ghost use Rattle.std.specs.Prelude.{ℕ, List, ◌≤◌, IfOk};
+ghost use Rattle.std.specs.Prelude.{ℕ, List, string_bytes, IfOk};
 ghost use Rattle.gutsirava_c.specs.Answer.{IsHandedOver};
+ghost use Rattle.gutsirava_c.specs.Form.{IsErrorLine, IsFormReply};
 
+use crate::reply::Reply;
 use crate::room::{NO_MEMORY, hand_over};
 use bundle_js_read::{Goal, Position, ReadError, ReadErrorKind, SourceModule, position_at};
 use bundle_json_form::push_tree;
@@ -22,7 +24,8 @@ pub extern "C" fn gutsirava_form(
     output: &mut [u8],
     written: &mut usize,
 ) -> u32
-    ensures { (status : ℕ) × (answer : List ℕ) × (status ≤ 1)
+    ensures { (status : ℕ) × (answer : List ℕ)
+        × IsFormReply source.now status answer
         × IsHandedOver status answer result written.new output.old output.new }
 {
     let goal = if is_common_js {
@@ -30,24 +33,28 @@ pub extern "C" fn gutsirava_form(
     } else {
         Goal::Module
     };
-    match answer(alloc, source, goal) {
-        Ok((status, text)) => hand_over(status, text.as_bytes(), output, written),
+    match reply_to(alloc, source, goal) {
+        Ok(reply) => hand_over(reply.status, reply.text.as_str(), output, written),
         Err(_) => hand_over(1, NO_MEMORY, output, written),
     }
 }
 
-// The status of a source, and its form, or the line that says why it has none. Refused only for memory.
-fn answer(alloc: Global, source: &[u8], goal: Goal) -> Result<(u8, String), AllocError>
-    ensures { IfOk result (λ answer. answer.0 ≤ 1) }
+// The reply to a source. Refused only for memory.
+fn reply_to(alloc: Global, source: &[u8], goal: Goal) -> Result<Reply, AllocError>
+    ensures { IfOk result (λ reply.
+        IsFormReply source.now reply.status (string_bytes reply.text)) }
 {
-    let Ok(text) = str::from_utf8(source) else {
-        let line = String::from_str(alloc, "error 1:1: the text is not UTF-8\n")?;
-        return Ok((1, line));
+    let Ok(source) = str::from_utf8(source) else {
+        let text = String::from_str(alloc, "error 1:1: the text is not UTF-8\n")?;
+        return Ok(Reply { status: 1, text });
     };
-    match form_of(alloc, text, goal) {
-        Ok(form) => Ok((0, form)),
+    match form_of(alloc, source, goal) {
+        Ok(text) => Ok(Reply { status: 0, text }),
         Err(error) if matches!(error.kind, ReadErrorKind::OutOfMemory) => Err(AllocError),
-        Err(error) => Ok((1, line_of(alloc, text, error)?)),
+        Err(error) => {
+            let text = line_of(alloc, source, error)?;
+            Ok(Reply { status: 1, text })
+        }
     }
 }
 
@@ -65,10 +72,14 @@ fn form_of(alloc: Global, text: &str, goal: Goal) -> Result<String, ReadError> {
     }
 }
 
-// The line that tells what is wrong in a text, and where.
-fn line_of(alloc: Global, text: &str, error: ReadError) -> Result<String, AllocError> {
-    let Position { line, column } = position_at(text, error.at as usize);
+// The line that tells what is wrong in a text, and where in it.
+fn line_of(alloc: Global, text: &str, error: ReadError) -> Result<String, AllocError>
+    ensures { IfOk result (λ line. IsErrorLine text.now (string_bytes line)) }
+{
+    let at = text.len().min(error.at as usize);
+    let Position { line, column } = position_at(text, at);
     let column = column.saturating_add(1);
-    let why = error.kind;
+    let kind = error.kind;
+    let why = format!(in alloc; "{kind}")?;
     format!(in alloc; "error {line}:{column}: {why}\n")
 }

@@ -5,9 +5,8 @@ ghost use Rattle.bundle_json_document.specs.Answer.{IsDocumentAnswer, IsDocument
 ghost use Rattle.bundle_json_document.specs.Program.{fails_nowhere, may_list};
 ghost use Rattle.gutsirava_c.specs.Answer.{IsAnswer};
 
-use crate::bytes::Bytes;
 use crate::refusal::refusal_text;
-use bundle_json_document::{Document, MetaHook, answer_text, read_document};
+use bundle_json_document::{Document, DocumentError, MetaHook, answer_text, parse_document};
 use bundle_tree_names::error::Error;
 use std::alloc::{AllocError, Global};
 
@@ -22,16 +21,13 @@ pub(crate) struct Reply {
 pub(crate) fn reply_to(alloc: Global, input: &[u8]) -> Result<Reply, AllocError>
     ensures { IfOk result (λ reply. IsAnswer input.now reply.status (string_bytes reply.text)) }
 {
-    let mut bytes = Bytes { left: input };
-    // What is wrong with the input is told by the status alone.
-    let mut line = Vec::new(alloc);
-    let (document, hook) = match read_document(alloc, &mut bytes, &mut line) {
-        Ok(read) => read,
-        Err(2) => {
+    let (document, hook) = match parse_document(alloc, input) {
+        Ok(parsed) => parsed,
+        Err(DocumentError::Form) => {
             let text = String::from_str(alloc, "error: document\n")?;
             return Ok(Reply { status: 2, text });
         }
-        Err(_) => return Err(AllocError),
+        Err(DocumentError::OutOfMemory) => return Err(AllocError),
     };
     match bundles_of(alloc, document, hook) {
         Ok(mut text) => {

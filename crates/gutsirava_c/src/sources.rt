@@ -15,8 +15,8 @@ use gutsirava_resolve::Resolver;
 use std::alloc::{AllocError, Global};
 
 /// What is told of want of memory.
-const NO_MEMORY: &[u8] =
-    b"{\"bundles\":[],\"messages\":[{\"column\":null,\"file\":null,\"line\":null,\
+const NO_MEMORY: &str =
+    "{\"bundles\":[],\"messages\":[{\"column\":null,\"file\":null,\"line\":null,\
     \"notes\":[],\"severity\":\"error\",\"text\":\"out of memory\"}]}\n";
 
 /// Bundles source texts that are held in memory, as the command bundles files: CommonJS, JSON and packages too. The answer
@@ -34,8 +34,8 @@ pub extern "C" fn gutsirava_bundle_sources(
         × IsHandedOver status answer result written.new output.old output.new }
 {
     match reply_to(alloc, input) {
-        Ok(reply) => hand_over(reply.status, reply.text.as_bytes(), output, written),
-        Err(FormError::Form) => hand_over(2, b"error: document\n", output, written),
+        Ok(reply) => hand_over(reply.status, reply.text.as_str(), output, written),
+        Err(FormError::Form) => hand_over(2, "error: document\n", output, written),
         Err(FormError::OutOfMemory) => hand_over(1, NO_MEMORY, output, written),
     }
 }

@@ -1,7 +1,10 @@
 //! The JSON form of a tree to JavaScript.
 
-ghost use Rattle.std.specs.Prelude.{ℕ, List, ◌≤◌};
+ghost use Rattle.std.specs.Prelude.{◌≡◌, ℕ, List, None, Some, IfErr, IfOk, OnOk};
+ghost use Rattle.json.specs.Json.{document};
+ghost use Rattle.json.specs.Value.{value_view};
 ghost use Rattle.gutsirava_c.specs.Answer.{IsHandedOver};
+ghost use Rattle.gutsirava_c.specs.Form.{HasList, HasNoList, IsTextReply};
 
 use crate::room::{NO_MEMORY, hand_over};
 use bundle_js_print::{Charset, Printed, print_pieces};
@@ -19,29 +22,45 @@ pub extern "C" fn gutsirava_text(
     output: &mut [u8],
     written: &mut usize,
 ) -> u32
-    ensures { (status : ℕ) × (answer : List ℕ) × (status ≤ 2)
+    ensures { (status : ℕ) × (answer : List ℕ)
+        × IsTextReply form.now status answer
         × IsHandedOver status answer result written.new output.old output.new }
 {
     match printed(alloc, form) {
-        Ok(text) => hand_over(0, text.as_bytes(), output, written),
-        Err(FormError::Form) => hand_over(2, b"error: document\n", output, written),
+        Ok(text) => hand_over(0, text.as_str(), output, written),
+        Err(FormError::Form) => hand_over(2, "error: document\n", output, written),
         Err(FormError::OutOfMemory) => hand_over(1, NO_MEMORY, output, written),
     }
 }
 
 // The source text of the module of this form.
-fn printed(alloc: Global, form: &[u8]) -> Result<String, FormError> {
+fn printed(alloc: Global, form: &[u8]) -> Result<String, FormError>
+    ensures read { OnOk result (HasList form.now) }
+    ensures refused { IfErr result (λ error. error ≡ FormError.Form → HasNoList form.now) }
+{
     let Ok(form) = str::from_utf8(form) else {
         return Err(FormError::Form);
     };
     let notes = ExportMetadata::default();
     let mut scratch = Scratch::new(alloc);
-    let value = match Value::parse(alloc, form, &mut scratch) {
-        Ok(value) => value,
-        Err(Error::OutOfMemory) => return Err(FormError::OutOfMemory),
-        Err(_) => return Err(FormError::Form),
-    };
+    let value = value_of(alloc, form, &mut scratch)?;
     let pieces = read_module(alloc, &value, &notes)?;
     let Printed { text, .. } = print_pieces(alloc, pieces.as_slice(), &[], Charset::Utf8)?;
     Ok(text)
+}
+
+// The value of a text. Refused where it is no JSON, and for memory.
+fn value_of<'a>(
+    alloc: Global,
+    text: &'a str,
+    scratch: &'a mut Scratch,
+) -> Result<Value<'a>, FormError>
+    ensures read { IfOk result (λ value. document text.now ≡ Some (value_view value)) }
+    ensures refused { IfErr result (λ error. error ≡ FormError.Form → document text.now ≡ None) }
+{
+    match Value::parse(alloc, text, scratch) {
+        Ok(value) => Ok(value),
+        Err(Error::OutOfMemory) => Err(FormError::OutOfMemory),
+        Err(_) => Err(FormError::Form),
+    }
 }
