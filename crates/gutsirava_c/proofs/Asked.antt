@@ -1,5 +1,5 @@
 -- What is asked for, and what is replied to it.
-use Rattle.std.proofs.Common.{◌≡◌, ◌+◌, ◌<◌, ℕ, List, [], ◌∷◌, ◌++◌, Option, Some, Vec, Bor, Result, Ok, Err, IfOk, IsSomeAnd, Global, codes, length, take, get_or, map, refl, sym, ap, subst, inl, inr, ◌∙◌}
+use Rattle.std.proofs.Common.{◌≡◌, ◌+◌, ◌<◌, ℕ, List, [], ◌∷◌, ◌++◌, Option, Some, Vec, Bor, Result, Ok, Err, IfOk, IsSomeAnd, IsUtf8, Global, codes, length, take, get_or, map, refl, sym, ap, subst, inl, inr, ◌∙◌}
 use Rattle.std.specs.List.{AllZip}
 use Rattle.std.proofs.lemmas.List.{take_more, map-append}
 use Rattle.std.proofs.lemmas.Slice.Zip.{all_zipped_more}
@@ -32,10 +32,10 @@ entries_found (Ok entries) value it items is list all =
 entries_found (Err e) value it items is list all = all
 
 -- what the value of a text asks for, the text does
-pub text_asks : (text : List ℕ) (value : Json) (made : Result SourcesRequest FormError) → document text ≡ Some value
+pub text_asks : (text : List ℕ) (value : Json) (made : Result SourcesRequest FormError) → IsUtf8 text → document text ≡ Some value
     → IfOk made (λ it. Asks value it.settings it.entries.items) → IfOk made (λ it. TextAsks text it.settings it.entries.items)
-text_asks text value (Ok it) is asks = record { value = value; is_read = is; asks = asks }
-text_asks text value (Err e) is asks = asks
+text_asks text value (Ok it) utf8 is asks = record { utf8 = utf8; value = value; is_read = is; asks = asks }
+text_asks text value (Err e) utf8 is asks = asks
 
 -- the reply to what the input asks for
 pub replied : (input text : List ℕ) (settings : BundleSettings) (entries : List BundleEntry) (status : ℕ) (answer : List ℕ)

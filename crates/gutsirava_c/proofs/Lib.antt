@@ -2,4 +2,5 @@ mod Asked
 mod Forms
 mod Listed
 mod Reading
+mod Refused
 mod Told

@@ -7,7 +7,7 @@ use Rattle.gutsirava_bundle.specs.Command.{IsCommandAnswer}
 use Rattle.gutsirava_bundle.specs.declared.bundling.BundleText.{BundleText}
 use Rattle.gutsirava_bundle.specs.declared.settings.BundleEntry.{BundleEntry}
 use Rattle.gutsirava_bundle.specs.declared.settings.BundleSettings.{BundleSettings}
-use Rattle.gutsirava_c.specs.Request.{TextAsks}
+use Rattle.gutsirava_c.specs.Request.{IsNoRequest, TextAsks}
 
 -- the object of a bundle: its text and its name
 abbrev pub bundle_data : BundleText → Data
@@ -39,13 +39,13 @@ pub record IsBundlesReply (input answer : List ℕ) : Type 0 where
   pub asked : TextAsks input settings entries
   pub are_right : AreBundlesOf settings entries answer
 
--- the status 0 and the bundles that the input asks for; or 1, and then there is none; or 2, and a
--- line
+-- the status 0 and the bundles that the input asks for; or 1, and then there is none; or 2 and a
+-- line, and then the input asks for nothing
 abbrev pub IsSourcesReply : List ℕ → ℕ → List ℕ → Type 0
 IsSourcesReply input status answer =
     ((status ≡ 0) × IsBundlesReply input answer)
     ⊎ ((status ≡ 1) × IsBundledText [] answer)
-    ⊎ ((status ≡ 2) × (answer ≡ codes "error: document\n"))
+    ⊎ ((status ≡ 2) × IsNoRequest input × (answer ≡ codes "error: document\n"))
 
 -- the status 0 and the bundles of these entries; or 1, and then there is none
 abbrev pub IsReplyTo : BundleSettings → List BundleEntry → ℕ → List ℕ → Type 0

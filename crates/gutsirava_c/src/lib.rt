@@ -15,3 +15,4 @@ mod request;
 mod room;
 mod sources;
 mod text;
+mod value;

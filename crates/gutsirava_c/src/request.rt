@@ -1,17 +1,19 @@
 //! What is asked for of source texts, in JSON.
 
-ghost use Rattle.std.specs.Prelude.{◌≡◌, map, codes, IfOk, IsSomeAnd};
+ghost use Rattle.std.specs.Prelude.{◌≡◌, None, Some, map, codes, IfErr, IfOk, IsSome, IsSomeAnd, IsUtf8, OnOk};
 ghost use Rattle.std.specs.List.{AllZip};
-ghost use Rattle.json.specs.Find.{get};
-ghost use Rattle.json.specs.Json.{array, string};
-ghost use Rattle.json.specs.Value.{items_view, value_view};
-ghost use Rattle.gutsirava_c.specs.Request.{found, under as value_under, AreEntryPairs, AreSettings, Asks, IsEntryPair, IsFormat, IsOrder, IsPlatform, IsTextOrNone, TextAsks};
+ghost use Rattle.json.specs.Find.{as_array, as_object, as_str, get};
+ghost use Rattle.json.specs.Json.{array, object, string};
+ghost use Rattle.json.specs.Value.{items_view, members_view, value_view};
+ghost use Rattle.bundle_json_document.specs.Error.{NoneIs};
+ghost use Rattle.gutsirava_c.specs.Request.{found, under as value_under, AreEntryPairs, AreFileTexts, AreSettings, AreTexts, Asks, AsksNothing, IsEntryPair, IsFormat, IsNoRequest, IsObjectOrNone, IsOrder, IsPlatform, IsTextOrNone, RefusesOf, TextAsks};
 
+use crate::value::value_of;
 use bundle_json_form::FormError;
 use gutsirava_bundle::{BundleEntry, BundleSettings, Charset, OutputFormat};
 use gutsirava_path::join;
 use gutsirava_resolve::{Settings, TargetPlatform};
-use json::{Error, Scratch, Value};
+use json::{Scratch, Value};
 use std::alloc::Global;
 use std::collections::BTreeMap;
 
@@ -31,26 +33,27 @@ pub(crate) struct SourcesRequest {
 impl SourcesRequest {
     /// What a text asks for. Refused where it is no JSON or of another form, and for memory.
     pub(crate) fn read(alloc: Global, text: &str) -> Result<SourcesRequest, FormError>
-        ensures { IfOk result (λ it. TextAsks text.now it.settings it.entries.items) }
+        requires { IsUtf8 text.now }
+        ensures asks { IfOk result (λ it. TextAsks text.now it.settings it.entries.items) }
+        ensures refused { IfErr result (RefusesOf (IsNoRequest text.now)) }
     {
         let mut scratch = Scratch::new(alloc);
-        match Value::parse(alloc, text, &mut scratch) {
-            Ok(value) => SourcesRequest::of_value(alloc, &value),
-            Err(Error::OutOfMemory) => Err(FormError::OutOfMemory),
-            Err(_) => Err(FormError::Form),
-        }
+        let value = value_of(alloc, text, &mut scratch)?;
+        SourcesRequest::of_value(alloc, &value)
     }
 
     // What a value asks for.
     fn of_value(alloc: Global, value: &Value<'_>) -> Result<SourcesRequest, FormError>
-        ensures { IfOk result (λ it. Asks (value_view value.now) it.settings it.entries.items) }
+        ensures asks { IfOk result (λ it. Asks (value_view value.now) it.settings it.entries.items) }
+        ensures refused { IfErr result (RefusesOf (AsksNothing (value_view value.now))) }
     {
         let config = config_in(value)?;
         let settings = settings_in(alloc, config)?;
         let entries = entries_in(alloc, value.get("entries"))?;
-        let resolution = resolution_in(alloc, config)?;
+        let resolution = resolution_in(alloc, config, settings.platform)?;
+        let texts = texts_in(alloc, value.get("files"))?;
         Ok(SourcesRequest {
-            texts: texts_in(alloc, value.get("files"))?,
+            texts,
             entries,
             settings,
             resolution,
@@ -60,7 +63,11 @@ impl SourcesRequest {
 
 // The settings, which may be left out.
 fn config_in<'v, 'a>(value: &'v Value<'a>) -> Result<Option<&'v Value<'a>>, FormError>
-    ensures { IfOk result (λ config. found config ≡ get (codes "config") (value_view value.now)) }
+    ensures same { IfOk result (λ config.
+        found config ≡ get (codes "config") (value_view value.now)) }
+    ensures in_object { OnOk result (IsObjectOrNone (get (codes "config") (value_view value.now))) }
+    ensures refused { IfErr result (λ _.
+        ¬ IsObjectOrNone (get (codes "config") (value_view value.now))) }
 {
     let config = value.get("config");
     match config {
@@ -70,13 +77,24 @@ fn config_in<'v, 'a>(value: &'v Value<'a>) -> Result<Option<&'v Value<'a>>, Form
 }
 
 // The texts of an object, by the paths that its keys name.
-fn texts_in(
+fn texts_in(alloc: Global, value: Option<&Value<'_>>) -> Result<BTreeMap<String, String>, FormError>
+    ensures are { OnOk result (IsSomeAnd (found value.entry) AreFileTexts) }
+    ensures refused { IfErr result (RefusesOf (¬ IsSomeAnd (found value.entry) AreFileTexts)) }
+{
+    match value {
+        Some(value) => texts_of(alloc, members_of(value)?),
+        None => Err(FormError::Form),
+    }
+}
+
+fn texts_of(
     alloc: Global,
-    value: Option<&Value<'_>>,
-) -> Result<BTreeMap<String, String>, FormError> {
-    let Some(Value::Object(members)) = value else {
-        return Err(FormError::Form);
-    };
+    members: &[(&str, Value<'_>)],
+) -> Result<BTreeMap<String, String>, FormError>
+    ensures are { OnOk result (AreFileTexts (object (members_view members.now))) }
+    ensures refused { IfErr result (RefusesOf
+        (¬ AreFileTexts (object (members_view members.now)))) }
+{
     let mut texts = BTreeMap::new(alloc);
     for (name, text) in members {
         add_text(alloc, &mut texts, name, text)?;
@@ -90,7 +108,10 @@ fn add_text(
     texts: &mut BTreeMap<String, String>,
     name: &str,
     text: &Value<'_>,
-) -> Result<(), FormError> {
+) -> Result<(), FormError>
+    ensures is { OnOk result (IsSome (as_str (value_view text.now))) }
+    ensures refused { IfErr result (RefusesOf (as_str (value_view text.now) ≡ None)) }
+{
     let path = join(alloc, FOLDER, name)?;
     let text = String::from_str(alloc, text_of(text)?)?;
     texts.insert(path, text)?;
@@ -99,7 +120,10 @@ fn add_text(
 
 // The entries of a list of pairs, each a name and a file.
 fn entries_in(alloc: Global, value: Option<&Value<'_>>) -> Result<Vec<BundleEntry>, FormError>
-    ensures { IfOk result (λ entries. IsSomeAnd (found value.entry) (AreEntryPairs entries.items)) }
+    ensures are { IfOk result (λ entries.
+        IsSomeAnd (found value.entry) (AreEntryPairs entries.items)) }
+    ensures refused { IfErr result (RefusesOf (NoneIs (λ entries.
+        IsSomeAnd (found value.entry) (AreEntryPairs entries)))) }
 {
     match value {
         Some(value) => entries_of(alloc, items_of(value)?),
@@ -108,8 +132,10 @@ fn entries_in(alloc: Global, value: Option<&Value<'_>>) -> Result<Vec<BundleEntr
 }
 
 fn entries_of(alloc: Global, pairs: &[Value<'_>]) -> Result<Vec<BundleEntry>, FormError>
-    ensures { IfOk result (λ entries.
+    ensures are { IfOk result (λ entries.
         AllZip IsEntryPair (map value_view pairs.now) entries.items) }
+    ensures refused { IfErr result (RefusesOf
+        (NoneIs (AllZip IsEntryPair (map value_view pairs.now)))) }
 {
     let mut entries = Vec::new(alloc);
     for pair in pairs {
@@ -120,7 +146,8 @@ fn entries_of(alloc: Global, pairs: &[Value<'_>]) -> Result<Vec<BundleEntry>, Fo
 }
 
 fn entry_of(alloc: Global, pair: &Value<'_>) -> Result<BundleEntry, FormError>
-    ensures { IfOk result (IsEntryPair (value_view pair.now)) }
+    ensures is { IfOk result (IsEntryPair (value_view pair.now)) }
+    ensures refused { IfErr result (RefusesOf (NoneIs (IsEntryPair (value_view pair.now)))) }
 {
     let [name, file] = items_of(pair)? else {
         return Err(FormError::Form);
@@ -134,9 +161,22 @@ fn entry_of(alloc: Global, pair: &Value<'_>) -> Result<BundleEntry, FormError>
     })
 }
 
+// The members of an object.
+fn members_of<'v, 'a>(value: &'v Value<'a>) -> Result<&'v [(&'a str, Value<'a>)], FormError>
+    ensures are { IfOk result (λ members.
+        value_view value.now ≡ object (members_view members.now)) }
+    ensures refused { IfErr result (λ _. as_object (value_view value.now) ≡ None) }
+{
+    match value {
+        Value::Object(members) => Ok(members.as_slice()),
+        _ => Err(FormError::Form),
+    }
+}
+
 // The items of an array.
 fn items_of<'v, 'a>(value: &'v Value<'a>) -> Result<&'v [Value<'a>], FormError>
-    ensures { IfOk result (λ items. value_view value.now ≡ array (items_view items.now)) }
+    ensures are { IfOk result (λ items. value_view value.now ≡ array (items_view items.now)) }
+    ensures refused { IfErr result (λ _. as_array (value_view value.now) ≡ None) }
 {
     match value {
         Value::Array(items) => Ok(items.as_slice()),
@@ -145,7 +185,8 @@ fn items_of<'v, 'a>(value: &'v Value<'a>) -> Result<&'v [Value<'a>], FormError>
 }
 
 fn text_of<'a>(value: &Value<'a>) -> Result<&'a str, FormError>
-    ensures { IfOk result (λ text. value_view value.now ≡ string text.now) }
+    ensures is { IfOk result (λ text. value_view value.now ≡ string text.now) }
+    ensures refused { IfErr result (λ _. as_str (value_view value.now) ≡ None) }
 {
     match value {
         Value::String(text) => Ok(*text),
@@ -155,7 +196,8 @@ fn text_of<'a>(value: &Value<'a>) -> Result<&'a str, FormError>
 
 // What a bundle is to be.
 fn settings_in(alloc: Global, config: Option<&Value<'_>>) -> Result<BundleSettings, FormError>
-    ensures { IfOk result (AreSettings (found config.entry)) }
+    ensures are { IfOk result (AreSettings (found config.entry)) }
+    ensures refused { IfErr result (RefusesOf (NoneIs (AreSettings (found config.entry)))) }
 {
     let format = format_of(under(config, "module"))?;
     let in_standard_order = is_standard(under(config, "order"))?;
@@ -176,7 +218,8 @@ fn settings_in(alloc: Global, config: Option<&Value<'_>>) -> Result<BundleSettin
 }
 
 fn format_of(word: Option<&Value<'_>>) -> Result<OutputFormat, FormError>
-    ensures { IfOk result (IsFormat (found word.entry)) }
+    ensures is { IfOk result (IsFormat (found word.entry)) }
+    ensures refused { IfErr result (λ _. NoneIs (IsFormat (found word.entry))) }
 {
     match word {
         None => Ok(OutputFormat::Module),
@@ -190,7 +233,8 @@ fn format_of(word: Option<&Value<'_>>) -> Result<OutputFormat, FormError>
 }
 
 fn is_standard(word: Option<&Value<'_>>) -> Result<bool, FormError>
-    ensures { IfOk result (IsOrder (found word.entry)) }
+    ensures is { IfOk result (IsOrder (found word.entry)) }
+    ensures refused { IfErr result (λ _. NoneIs (IsOrder (found word.entry))) }
 {
     match word {
         None => Ok(true),
@@ -204,7 +248,8 @@ fn is_standard(word: Option<&Value<'_>>) -> Result<bool, FormError>
 }
 
 fn platform_of(word: Option<&Value<'_>>) -> Result<TargetPlatform, FormError>
-    ensures { IfOk result (IsPlatform (found word.entry)) }
+    ensures is { IfOk result (IsPlatform (found word.entry)) }
+    ensures refused { IfErr result (λ _. NoneIs (IsPlatform (found word.entry))) }
 {
     match word {
         None => Ok(TargetPlatform::Node),
@@ -218,7 +263,8 @@ fn platform_of(word: Option<&Value<'_>>) -> Result<TargetPlatform, FormError>
 }
 
 fn text_or_none(alloc: Global, value: Option<&Value<'_>>) -> Result<Option<String>, FormError>
-    ensures { IfOk result (IsTextOrNone (found value.entry)) }
+    ensures is { IfOk result (IsTextOrNone (found value.entry)) }
+    ensures refused { IfErr result (RefusesOf (NoneIs (IsTextOrNone (found value.entry)))) }
 {
     match value {
         None => Ok(None),
@@ -227,8 +273,16 @@ fn text_or_none(alloc: Global, value: Option<&Value<'_>>) -> Result<Option<Strin
 }
 
 // How specifiers are resolved.
-fn resolution_in(alloc: Global, config: Option<&Value<'_>>) -> Result<Settings, FormError> {
-    let platform = platform_of(under(config, "platform"))?;
+fn resolution_in(
+    alloc: Global,
+    config: Option<&Value<'_>>,
+    platform: TargetPlatform,
+) -> Result<Settings, FormError>
+    ensures are { OnOk result
+        (AreTexts (value_under (codes "external_modules") (found config.entry))) }
+    ensures refused { IfErr result (RefusesOf
+        (¬ AreTexts (value_under (codes "external_modules") (found config.entry)))) }
+{
     let mut resolution = Settings::for_bundle(alloc, platform)?;
     if let Some(externals) = under(config, "external_modules") {
         add_externals(alloc, &mut resolution, items_of(externals)?)?;
@@ -240,7 +294,11 @@ fn add_externals(
     alloc: Global,
     resolution: &mut Settings,
     externals: &[Value<'_>],
-) -> Result<(), FormError> {
+) -> Result<(), FormError>
+    ensures are { OnOk result (AreTexts (Some (array (items_view externals.now)))) }
+    ensures refused { IfErr result (RefusesOf
+        (¬ AreTexts (Some (array (items_view externals.now))))) }
+{
     for external in externals {
         resolution.externals.add(alloc, FOLDER, text_of(external)?)?;
     }

@@ -1,7 +1,8 @@
 //! Source texts to bundles.
 
-ghost use Rattle.std.specs.Prelude.{ℕ, List, string_bytes, IfOk};
+ghost use Rattle.std.specs.Prelude.{ℕ, List, string_bytes, IfErr, IfOk};
 ghost use Rattle.gutsirava_c.specs.Answer.{IsHandedOver};
+ghost use Rattle.gutsirava_c.specs.Request.{IsNoRequest, RefusesOf};
 ghost use Rattle.gutsirava_c.specs.Sources.{IsReplyTo, IsSourcesReply};
 
 use crate::bundled::bundled_text;
@@ -42,14 +43,16 @@ pub extern "C" fn gutsirava_bundle_sources(
 
 // The reply to a request. Refused where it is of another form, and for memory.
 fn reply_to(alloc: Global, input: &[u8]) -> Result<Reply, FormError>
-    ensures { IfOk result (λ reply.
+    ensures told { IfOk result (λ reply.
         IsSourcesReply input.now reply.status (string_bytes reply.text)) }
+    ensures refused { IfErr result (RefusesOf (IsNoRequest input.now)) }
 {
     let Ok(text) = str::from_utf8(input) else {
         return Err(FormError::Form);
     };
     let request = SourcesRequest::read(alloc, text)?;
-    Ok(answered(alloc, request)?)
+    let reply = answered(alloc, request)?;
+    Ok(reply)
 }
 
 // The reply to what is asked for.

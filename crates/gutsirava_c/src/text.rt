@@ -1,16 +1,15 @@
 //! The JSON form of a tree to JavaScript.
 
-ghost use Rattle.std.specs.Prelude.{◌≡◌, ℕ, List, None, Some, IfErr, IfOk, OnOk};
-ghost use Rattle.json.specs.Json.{document};
-ghost use Rattle.json.specs.Value.{value_view};
+ghost use Rattle.std.specs.Prelude.{◌≡◌, ℕ, List, IfErr, OnOk};
 ghost use Rattle.gutsirava_c.specs.Answer.{IsHandedOver};
 ghost use Rattle.gutsirava_c.specs.Form.{HasList, HasNoList, IsTextReply};
 
 use crate::room::{NO_MEMORY, hand_over};
+use crate::value::value_of;
 use bundle_js_print::{Charset, Printed, print_pieces};
 use bundle_json_form::{FormError, read_module};
 use bundle_syntax::ExportMetadata;
-use json::{Error, Scratch, Value};
+use json::Scratch;
 use std::alloc::Global;
 
 /// Answers with the status 0 and the source text of the module whose JSON form `form` is; with 1 and a line for want of
@@ -47,20 +46,4 @@ fn printed(alloc: Global, form: &[u8]) -> Result<String, FormError>
     let pieces = read_module(alloc, &value, &notes)?;
     let Printed { text, .. } = print_pieces(alloc, pieces.as_slice(), &[], Charset::Utf8)?;
     Ok(text)
-}
-
-// The value of a text. Refused where it is no JSON, and for memory.
-fn value_of<'a>(
-    alloc: Global,
-    text: &'a str,
-    scratch: &'a mut Scratch,
-) -> Result<Value<'a>, FormError>
-    ensures read { IfOk result (λ value. document text.now ≡ Some (value_view value)) }
-    ensures refused { IfErr result (λ error. error ≡ FormError.Form → document text.now ≡ None) }
-{
-    match Value::parse(alloc, text, scratch) {
-        Ok(value) => Ok(value),
-        Err(Error::OutOfMemory) => Err(FormError::OutOfMemory),
-        Err(_) => Err(FormError::Form),
-    }
 }
