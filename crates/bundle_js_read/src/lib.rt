@@ -10,4 +10,4 @@ pub use bundle_js_pieces::Placed;
 pub use bundle_js_scan::gap::Goal;
 pub use bundle_js_scan::place::{Position, position_at};
 pub use error::{ReadError, ReadErrorKind};
-pub use source::{KeptComment, SourceModule};
+pub use source::{KeptComment, SourceModule, SourceRecords};

@@ -1,24 +1,15 @@
 //! The texts of the modules between others.
 
-ghost use Rattle.std.specs.Prelude.{◌≤◌};
-
 use crate::facade::{Facade, name_of, put_import};
-use crate::graph::Graph;
 use crate::tables::{GivenNames, are_plain, asked_modules, names_of};
 use crate::unit::path_in;
-use gutsirava_resolve::FileSystem;
+use crate::unit_table::UnitTable;
 use gutsirava_sources::SourceKind;
 use std::alloc::AllocError;
 
-impl<'s, F: FileSystem + Drop> Graph<'s, F> {
+impl UnitTable {
     /// The text of the module that does this for another one, where all files are read.
-    pub(crate) fn facade_text(
-        &mut self,
-        facade: Facade,
-        target: usize,
-    ) -> Result<String, AllocError>
-        ensures { self.old.messages.errors ≤ self.new.messages.errors }
-    {
+    pub(crate) fn facade_text(&self, facade: Facade, target: usize) -> Result<String, AllocError> {
         let alloc = self.alloc;
         let name = match path_in(self.units.as_slice(), target) {
             Some(path) => name_of(alloc, path)?,

@@ -48,6 +48,19 @@ pub(crate) struct Seats {
     pub(crate) namespace: usize,
 }
 
+impl Seats {
+    /// The module itself, for all parts.
+    pub(crate) fn of(unit: usize) -> Seats {
+        Seats {
+            names: unit,
+            star: unit,
+            run: unit,
+            default: unit,
+            namespace: unit,
+        }
+    }
+}
+
 impl Bond {
     /// The text, which is left.
     pub(crate) fn to_left(alloc: Global, text: &str) -> Result<Bond, AllocError> {

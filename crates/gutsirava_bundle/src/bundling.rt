@@ -1,6 +1,6 @@
 //! Files to bundles.
 
-ghost use Rattle.std.specs.Prelude.{◌≡◌, ◌<◌, ◌≤◌, ◌++◌, ◌∷◌, [], map, length, string_bytes, IfOk, MatchOption, OnOk};
+ghost use Rattle.std.specs.Prelude.{◌≡◌, ◌<◌, ◌≤◌, ◌++◌, ◌∷◌, [], false, map, length, string_bytes, IfOk, MatchOption, OnOk};
 ghost use Rattle.std.specs.List.{AllZip};
 ghost use Rattle.bundler_call.specs.Answer.{answer_told};
 ghost use Rattle.bundler_call.specs.Kept.{entry_of, settings_of};
@@ -13,10 +13,13 @@ use crate::facade::Facade;
 use crate::graph::{FoundUnit, Graph};
 use crate::message::Messages;
 use crate::output::{BundleFrame, text_of};
+use crate::own::read_own;
 use crate::parties::{KeyResolver, NoMeta, UnitLoader, file_of};
 use crate::progress::ProgressListener;
 use crate::settings::{BundleEntry, BundleSettings, OutputFormat};
+use crate::teller::Teller;
 use crate::unit::BundleUnit;
+use crate::unit_table::UnitTable;
 use bundle_tree::hook::Hook;
 use bundle_tree_ast::Module;
 use bundle_tree_names::config::{Config, ModuleType};
@@ -72,31 +75,71 @@ pub fn bundle_entries<F: FileSystem + Drop, P: ProgressListener>(
 {
     let mut graph = Graph::new(alloc, files, resolver, settings);
     let roots = roots_of(&mut graph, entries)?;
-    graph.read_all(progress)?;
-    let outputs = outputs_of(&mut graph, settings, roots.as_slice(), progress)?;
-    let bundled = finish(alloc, graph, outputs)?;
+    graph.read_files(progress)?;
+    let (teller, table) = graph.into_parts();
+    let bundled = bundled_of(teller, table, settings, roots.as_slice(), progress)?;
+    Ok(bundled)
+}
+
+// What comes of modules whose files were read.
+fn bundled_of<P: ProgressListener>(
+    teller: Teller<'_>,
+    table: UnitTable,
+    settings: &BundleSettings,
+    roots: &[Root],
+    progress: &mut P,
+) -> Result<Bundled, AllocError>
+    ensures grows { IfOk result (λ it. teller.entry.messages.errors ≤ it.messages.errors) }
+    ensures none { IfOk result (λ it. 0 < it.messages.errors → it.outputs.items ≡ []) }
+    ensures answer { IfOk result (λ it. it.messages.errors ≡ 0 →
+        IsLinkAnswer settings.now roots.now it.outputs.items) }
+{
+    let mut teller = teller;
+    let mut table = table;
+    let outputs = outputs_of(&mut teller, &mut table, settings, roots, progress)?;
+    let bundled = finish(teller, table.units.as_slice(), outputs)?;
     Ok(bundled)
 }
 
 // The texts of bundles, where all was read.
-fn outputs_of<F: FileSystem + Drop, P: ProgressListener>(
-    graph: &mut Graph<'_, F>,
+fn outputs_of<P: ProgressListener>(
+    teller: &mut Teller<'_>,
+    table: &mut UnitTable,
     settings: &BundleSettings,
     roots: &[Root],
     progress: &mut P,
 ) -> Result<Vec<BundleText>, AllocError>
-    ensures grows { graph.old.messages.errors ≤ graph.new.messages.errors }
-    ensures answer { IfOk result (λ outputs. graph.new.messages.errors ≡ 0 →
+    ensures grows { teller.old.messages.errors ≤ teller.new.messages.errors }
+    ensures answer { IfOk result (λ outputs. teller.new.messages.errors ≡ 0 →
         IsLinkAnswer settings.now roots.now outputs.items) }
 {
-    let alloc = graph.alloc;
-    if graph.messages.errors > 0 {
-        return Ok(Vec::new(alloc));
+    if !is_complete(teller, table, roots)? {
+        return Ok(Vec::new(teller.alloc));
     }
-    let begins = files_of(alloc, roots)?;
-    graph.tell_circles(begins.as_slice())?;
     progress.begins_to_link();
-    link(graph, settings, roots)
+    link(teller, table, settings, roots)
+}
+
+// Whether all is read; the circles of the modules are told then.
+fn is_complete(
+    teller: &mut Teller<'_>,
+    table: &mut UnitTable,
+    roots: &[Root],
+) -> Result<bool, AllocError>
+    ensures grows { teller.old.messages.errors ≤ teller.new.messages.errors }
+    ensures told { IfOk result (λ complete.
+        complete ≡ false → 0 < teller.new.messages.errors) }
+{
+    if teller.messages.errors > 0 {
+        return Ok(false);
+    }
+    read_own(teller, table)?;
+    if teller.messages.errors > 0 {
+        return Ok(false);
+    }
+    let begins = files_of(teller.alloc, roots)?;
+    teller.tell_circles(table.units.as_slice(), begins.as_slice())?;
+    Ok(true)
 }
 
 // The modules of the files of entries.
@@ -113,14 +156,14 @@ fn roots_of<F: FileSystem + Drop>(
     graph: &mut Graph<'_, F>,
     entries: Vec<BundleEntry>,
 ) -> Result<Vec<Root>, AllocError>
-    ensures { IfOk result (λ roots. graph.new.messages.errors ≡ 0 →
+    ensures { IfOk result (λ roots. graph.new.teller.messages.errors ≡ 0 →
         AllZip IsRootOf entries.items roots.items) }
 {
-    let mut roots = Vec::new(graph.alloc);
+    let mut roots = Vec::new(graph.table.alloc);
     for entry in entries {
         add_root(graph, &mut roots, entry)?;
     }
-    mark_main(graph.units.as_mut_slice(), roots.as_slice());
+    mark_main(&mut graph.table, roots.as_slice());
     Ok(roots)
 }
 
@@ -130,45 +173,57 @@ fn add_root<F: FileSystem + Drop>(
     roots: &mut Vec<Root>,
     entry: BundleEntry,
 ) -> Result<(), AllocError>
-    ensures grows { graph.old.messages.errors ≤ graph.new.messages.errors }
-    ensures added { OnOk result (graph.new.messages.errors ≡ 0 →
+    ensures grows { graph.old.teller.messages.errors ≤ graph.new.teller.messages.errors }
+    ensures added { OnOk result (graph.new.teller.messages.errors ≡ 0 →
         (root : Root) × (roots.new.items ≡ roots.old.items ++ root ∷ []) × IsRootOf entry root) }
 {
-    let Some(root) = find(graph, entry)? else {
+    let BundleEntry { name, path, text } = entry;
+    let Some(it) = found(graph, path.as_str(), text)? else {
         return Ok(());
     };
+    let root = root_of(&mut graph.table, name, it)?;
+    push_root(&mut graph.teller, roots, root)?;
+    Ok(())
+}
+
+// Adds what was found of an entry, which may be given once.
+fn push_root(teller: &mut Teller<'_>, roots: &mut Vec<Root>, root: Root) -> Result<(), AllocError>
+    ensures grows { teller.old.messages.errors ≤ teller.new.messages.errors }
+    ensures added { OnOk result (teller.new.messages.errors ≡ 0 →
+        roots.new.items ≡ roots.old.items ++ root ∷ []) }
+{
     if roots.iter().any(|other: &Root| other.unit == root.unit) {
-        let alloc = graph.alloc;
         let name = &root.name;
-        let why = format!(in alloc; "the entry {name:?} is given twice")?;
-        return graph.messages.error(why, None, Vec::new(alloc));
+        let why = format!(in teller.alloc; "the entry {name:?} is given twice")?;
+        return teller.error(why);
     }
     roots.push(root)?;
     Ok(())
 }
 
 // Marks the module of the file with which the one bundle begins.
-fn mark_main(units: &mut [BundleUnit], roots: &[Root]) {
+fn mark_main(table: &mut UnitTable, roots: &[Root]) {
     if roots.len() == 1
         && let Some(root) = roots.first()
-        && let Some(unit) = units.get_mut(root.file)
+        && let Some(unit) = table.units.get_mut(root.file)
     {
         unit.is_main = true;
     }
 }
 
 // What is told of all that was done; where that is an error, no text.
-fn finish<F: FileSystem + Drop>(
-    alloc: Global,
-    graph: Graph<'_, F>,
+fn finish(
+    teller: Teller<'_>,
+    units: &[BundleUnit],
     outputs: Vec<BundleText>,
 ) -> Result<Bundled, AllocError>
-    ensures told { IfOk result (λ it. it.messages ≡ graph.entry.messages) }
+    ensures told { IfOk result (λ it. it.messages ≡ teller.entry.messages) }
     ensures none { IfOk result (λ it. 0 < it.messages.errors → it.outputs.items ≡ []) }
     ensures same { IfOk result (λ it. it.messages.errors ≡ 0 → it.outputs ≡ outputs) }
 {
-    let inputs = paths_of(alloc, graph.units.as_slice())?;
-    let messages = graph.into_messages();
+    let alloc = teller.alloc;
+    let inputs = paths_of(alloc, units)?;
+    let messages = teller.into_messages();
     let outputs = unless_faults(alloc, messages.errors, outputs);
     Ok(Bundled {
         outputs,
@@ -203,34 +258,14 @@ struct FoundEntry {
     hashbang: Option<String>,
 }
 
-// Finds the file of an entry. A CommonJS module has one in front that exports what it exports.
-fn find<F: FileSystem + Drop>(
-    graph: &mut Graph<'_, F>,
-    entry: BundleEntry,
-) -> Result<Option<Root>, AllocError>
-    ensures grows { graph.old.messages.errors ≤ graph.new.messages.errors }
-    ensures told { IfOk result (λ found.
-        MatchOption found (0 < graph.new.messages.errors) (IsRootOf entry)) }
-{
-    let BundleEntry { name, path, text } = entry;
-    match found(graph, path.as_str(), text)? {
-        Some(it) => Ok(Some(root_of(graph, name, it)?)),
-        None => Ok(None),
-    }
-}
-
-fn root_of<F: FileSystem + Drop>(
-    graph: &mut Graph<'_, F>,
-    name: String,
-    found: FoundEntry,
-) -> Result<Root, AllocError>
-    ensures grows { graph.old.messages.errors ≤ graph.new.messages.errors }
-    ensures named { IfOk result (λ root. root.name ≡ name) }
+// The module with which the bundle of a file begins. A CommonJS module has one in front that exports what it exports.
+fn root_of(table: &mut UnitTable, name: String, found: FoundEntry) -> Result<Root, AllocError>
+    ensures { IfOk result (λ root. root.name ≡ name) }
 {
     let FoundEntry { file, hashbang } = found;
-    let unit = match graph.kind_of(file) {
+    let unit = match table.kind_of(file) {
         SourceKind::EcmaScript => file,
-        SourceKind::CommonJs => graph.facade(file, Facade::NodeDefault)?,
+        SourceKind::CommonJs => table.facade(file, Facade::NodeDefault)?,
     };
     Ok(Root {
         name,
@@ -246,14 +281,14 @@ fn found<F: FileSystem + Drop>(
     path: &str,
     given: Option<String>,
 ) -> Result<Option<FoundEntry>, AllocError>
-    ensures grows { graph.old.messages.errors ≤ graph.new.messages.errors }
+    ensures grows { graph.old.teller.messages.errors ≤ graph.new.teller.messages.errors }
     ensures told { IfOk result (λ found.
-        MatchOption found (0 < graph.new.messages.errors) (λ _. Unit {0})) }
+        MatchOption found (0 < graph.new.teller.messages.errors) (λ _. Unit {0})) }
 {
     let Some(text) = entry_text(graph, path, given)? else {
         return Ok(None);
     };
-    let hashbang = first_line(graph.alloc, text.as_str())?;
+    let hashbang = first_line(graph.table.alloc, text.as_str())?;
     match entry_file(graph, path, text)? {
         Some(file) => Ok(Some(FoundEntry { file, hashbang })),
         None => Ok(None),
@@ -274,17 +309,17 @@ fn entry_file<F: FileSystem + Drop>(
     path: &str,
     text: String,
 ) -> Result<Option<usize>, AllocError>
-    ensures grows { graph.old.messages.errors ≤ graph.new.messages.errors }
+    ensures grows { graph.old.teller.messages.errors ≤ graph.new.teller.messages.errors }
     ensures told { IfOk result (λ found.
-        MatchOption found (0 < graph.new.messages.errors) (λ _. Unit {0})) }
+        MatchOption found (0 < graph.new.teller.messages.errors) (λ _. Unit {0})) }
 {
-    if let Some(unit) = graph.known(path) {
+    if let Some(unit) = graph.table.known(path) {
         return Ok(Some(unit));
     }
     match graph.add_file(path, path, text)? {
         FoundUnit::Unit(file) => Ok(Some(file)),
         FoundUnit::Unread(why) => {
-            graph.messages.error(why, None, Vec::new(graph.alloc))?;
+            graph.teller.error(why)?;
             Ok(None)
         }
     }
@@ -296,65 +331,59 @@ fn entry_text<F: FileSystem + Drop>(
     path: &str,
     given: Option<String>,
 ) -> Result<Option<String>, AllocError>
-    ensures grows { graph.old.messages.errors ≤ graph.new.messages.errors }
+    ensures grows { graph.old.teller.messages.errors ≤ graph.new.teller.messages.errors }
     ensures told { IfOk result (λ text.
-        MatchOption text (0 < graph.new.messages.errors) (λ _. Unit {0})) }
+        MatchOption text (0 < graph.new.teller.messages.errors) (λ _. Unit {0})) }
 {
     match given {
         Some(text) => Ok(Some(text)),
-        None => read_text(graph, path),
+        None => read_text(&graph.files, &mut graph.teller, path),
     }
 }
 
 // The text of the file of an entry.
 fn read_text<F: FileSystem + Drop>(
-    graph: &mut Graph<'_, F>,
+    files: &F,
+    teller: &mut Teller<'_>,
     path: &str,
 ) -> Result<Option<String>, AllocError>
-    ensures grows { graph.old.messages.errors ≤ graph.new.messages.errors }
+    ensures grows { teller.old.messages.errors ≤ teller.new.messages.errors }
     ensures told { IfOk result (λ text.
-        MatchOption text (0 < graph.new.messages.errors) (λ _. Unit {0})) }
+        MatchOption text (0 < teller.new.messages.errors) (λ _. Unit {0})) }
 {
-    match graph.files.read(graph.alloc, path) {
+    match files.read(teller.alloc, path) {
         Ok(text) => Ok(Some(text)),
         Err(cause) => {
-            let why = graph.unread_text(path, &cause)?;
-            graph.messages.error(why, None, Vec::new(graph.alloc))?;
+            let why = teller.unread_text(path, &cause)?;
+            teller.error(why)?;
             Ok(None)
         }
     }
 }
 
 // Links the modules that were read.
-fn link<F: FileSystem + Drop>(
-    graph: &mut Graph<'_, F>,
+fn link(
+    teller: &mut Teller<'_>,
+    table: &mut UnitTable,
     settings: &BundleSettings,
     roots: &[Root],
 ) -> Result<Vec<BundleText>, AllocError>
-    ensures grows { graph.old.messages.errors ≤ graph.new.messages.errors }
-    ensures answer { IfOk result (λ outputs. graph.new.messages.errors ≡ 0 →
+    ensures grows { teller.old.messages.errors ≤ teller.new.messages.errors }
+    ensures answer { IfOk result (λ outputs. teller.new.messages.errors ≡ 0 →
         IsLinkAnswer settings.now roots.now outputs.items) }
 {
-    let alloc = graph.alloc;
+    let alloc = teller.alloc;
     let entries = link_entries(alloc, roots)?;
-    let linked = bundles(graph, settings, entries)?;
+    let linked = bundles(table, settings, entries)?;
     let bundles = match linked {
         Ok(bundles) => bundles,
         Err(error) => {
-            refuse(graph, error)?;
+            teller.tell_refusal(table.units.as_slice(), &error)?;
             return Ok(Vec::new(alloc));
         }
     };
     let outputs = texts_of(alloc, settings, roots, bundles.as_slice())?;
     Ok(outputs)
-}
-
-// Tells why the linker gives no bundle.
-fn refuse<F: FileSystem + Drop>(graph: &mut Graph<'_, F>, error: Error) -> Result<(), AllocError>
-    ensures grows { graph.old.messages.errors ≤ graph.new.messages.errors }
-    ensures told { OnOk result (0 < graph.new.messages.errors) }
-{
-    graph.tell_refusal(&error)
 }
 
 // The entries of bundles that begin with these modules, called by their numbers. Names of bundles do not show in them.
@@ -410,19 +439,18 @@ fn output_of(
 }
 
 // What the linker makes of the modules.
-fn bundles<F: FileSystem + Drop>(
-    graph: &mut Graph<'_, F>,
+fn bundles(
+    table: &mut UnitTable,
     settings: &BundleSettings,
     entries: Vec<(String, FileName)>,
 ) -> Result<Result<Vec<Bundle>, Error>, AllocError>
-    ensures same { graph.new.messages ≡ graph.old.messages }
-    ensures linked { IfOk result (λ answer. IsLinked gives_nothing fails_nowhere
-        (link_settings settings.now (map string_bytes graph.old.externals.keys))
-        (trees_in graph.old.units.items) (map entry_of entries.items) (answer_told answer)) }
+    ensures { IfOk result (λ answer. IsLinked gives_nothing fails_nowhere
+        (link_settings settings.now (map string_bytes table.old.externals.keys))
+        (trees_in table.old.units.items) (map entry_of entries.items) (answer_told answer)) }
 {
-    let alloc = graph.alloc;
-    let config = config_of(alloc, settings, &graph.externals)?;
-    let trees = trees_of(alloc, graph.units.as_mut_slice())?;
+    let alloc = table.alloc;
+    let config = config_of(alloc, settings, &table.externals)?;
+    let trees = trees_of(alloc, table.units.as_mut_slice())?;
     let hook = Box::new(alloc, NoMeta)?;
     let order = settings.in_standard_order;
     Ok(linked(alloc, trees, config, order, hook, entries))

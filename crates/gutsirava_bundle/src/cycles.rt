@@ -4,9 +4,8 @@ ghost use Rattle.std.specs.Prelude.{◌≡◌, ◌<◌, ◌++◌, ◌⊎◌, [],
 ghost use Rattle.std.specs.List.{All};
 ghost use Rattle.gutsirava_bundle.specs.Circle.{ClosesPath, IsCircleOf, IsImportAt, IsWalk};
 
-use crate::graph::Graph;
+use crate::teller::Teller;
 use crate::unit::BundleUnit;
-use gutsirava_resolve::FileSystem;
 use gutsirava_sources::{RequestForm, SourceKind};
 use std::alloc::{AllocError, Global};
 use std::collections::BTreeSet;
@@ -36,39 +35,42 @@ struct CycleSearch {
     found: BTreeSet<(usize, usize)>,
 }
 
-impl<'s, F: FileSystem + Drop> Graph<'s, F> {
+impl Teller<'_> {
     /// Tells each circle of imports once: of each link that leads back, the modules between.
-    pub(crate) fn tell_circles(&mut self, entries: &[usize]) -> Result<(), AllocError>
+    pub(crate) fn tell_circles(
+        &mut self,
+        units: &[BundleUnit],
+        entries: &[usize],
+    ) -> Result<(), AllocError>
         ensures same { self.new.messages.errors ≡ self.old.messages.errors }
     {
-        let alloc = self.alloc;
-        let circles = circles_of(alloc, self.units.as_slice(), entries)?;
+        let circles = circles_of(self.alloc, units, entries)?;
         for circle in circles.iter().take(MOST_CIRCLES) {
-            self.tell_circle(circle.as_slice())?;
+            self.tell_circle(units, circle.as_slice())?;
         }
         if circles.len() > MOST_CIRCLES {
             let more = circles.len().saturating_sub(MOST_CIRCLES);
-            let told = format!(in alloc; "{more} more circular imports")?;
-            self.messages.warning(alloc, told, None)?;
+            let told = format!(in self.alloc; "{more} more circular imports")?;
+            self.messages.warning(self.alloc, told, None)?;
         }
         Ok(())
     }
 
-    fn tell_circle(&mut self, circle: &[usize]) -> Result<(), AllocError>
+    fn tell_circle(&mut self, units: &[BundleUnit], circle: &[usize]) -> Result<(), AllocError>
         ensures same { self.new.messages.errors ≡ self.old.messages.errors }
     {
-        let text = self.circle_text(circle)?;
+        let text = self.circle_text(units, circle)?;
         self.messages.warning(self.alloc, text, None)
     }
 
     // A circle as it is told.
-    fn circle_text(&self, circle: &[usize]) -> Result<String, AllocError> {
+    fn circle_text(&self, units: &[BundleUnit], circle: &[usize]) -> Result<String, AllocError> {
         let mut text = String::from_str(self.alloc, "circular: ")?;
         for (number, unit) in circle.iter().enumerate() {
             if number > 0 {
                 text.push_str(" -> ")?;
             }
-            text.push_str(self.told_path(*unit)?.as_str())?;
+            text.push_str(self.told_path(units, *unit)?.as_str())?;
         }
         Ok(text)
     }

@@ -2,26 +2,33 @@
 
 ghost use Rattle.std.specs.Prelude.{◌≤◌, ◌<◌, OnOk};
 
-use crate::graph::Graph;
 use crate::parties::unit_in;
 use crate::spot::{TextSpot, spot_in};
+use crate::teller::Teller;
 use crate::unit::{BundleUnit, UnitOrigin, path_in, unit_of};
 use bundle_tree_names::error::Error;
 use bundle_tree_names::file_name::FileName;
 use gutsirava_report::FilePlace;
-use gutsirava_resolve::FileSystem;
 use std::alloc::{AllocError, Global};
 
-impl<'s, F: FileSystem + Drop> Graph<'s, F> {
+impl Teller<'_> {
     /// Tells why the linker gives no bundle.
-    pub(crate) fn tell_refusal(&mut self, error: &Error) -> Result<(), AllocError>
+    pub(crate) fn tell_refusal(
+        &mut self,
+        units: &[BundleUnit],
+        error: &Error,
+    ) -> Result<(), AllocError>
         ensures grows { self.old.messages.errors ≤ self.new.messages.errors }
         ensures told { OnOk result (0 < self.new.messages.errors) }
     {
         match error {
             Error::OutOfMemory => Err(AllocError),
-            Error::MissingExport { file, name } => self.tell_missing(file, name.as_str()),
-            Error::AmbiguousExport { file, name } => self.tell_ambiguous(file, name.as_str()),
+            Error::MissingExport { file, name } => self.tell_missing(units, file, name.as_str()),
+            Error::AmbiguousExport { file, name } => self.tell_ambiguous(
+                units,
+                file,
+                name.as_str(),
+            ),
             Error::DoubledDeclaration { file, .. }
             | Error::DoubledExport { file, .. }
             | Error::UndeclaredExport { file, .. }
@@ -31,8 +38,8 @@ impl<'s, F: FileSystem + Drop> Graph<'s, F> {
             | Error::ArgumentsUnderIife { file } => {
                 let why = sentence_of(self.alloc, error)?;
                 match spot_of(error) {
-                    Some(spot) => self.tell_spot(file, spot, why),
-                    None => self.tell_file(file, why),
+                    Some(spot) => self.tell_spot(units, file, spot, why),
+                    None => self.tell_file(units, file, why),
                 }
             }
             Error::StarOfCommonJs { file, specifier }
@@ -41,7 +48,7 @@ impl<'s, F: FileSystem + Drop> Graph<'s, F> {
             | Error::ExternalUnderIife { file, specifier }
             | Error::Resolve { file, specifier } => {
                 let why = sentence_of(self.alloc, error)?;
-                self.tell_link(file, specifier.as_str(), why)
+                self.tell_link(units, file, specifier.as_str(), why)
             }
             Error::NamespaceOverExternalStar { file }
             | Error::Load { file }
@@ -50,14 +57,18 @@ impl<'s, F: FileSystem + Drop> Graph<'s, F> {
             | Error::ContextsUsedUp { file }
             | Error::DoubledEntry { file, .. } => {
                 let why = sentence_of(self.alloc, error)?;
-                self.tell_file(file, why)
+                self.tell_file(units, file, why)
             }
         }
     }
 
     // The path of a module's file as it is told; empty where it has none.
-    pub(crate) fn told_path(&self, unit: usize) -> Result<String, AllocError> {
-        match path_in(self.units.as_slice(), unit) {
+    pub(crate) fn told_path(
+        &self,
+        units: &[BundleUnit],
+        unit: usize,
+    ) -> Result<String, AllocError> {
+        match path_in(units, unit) {
             Some(path) => self.shown(path),
             None => Ok(String::new(self.alloc)),
         }
@@ -65,12 +76,13 @@ impl<'s, F: FileSystem + Drop> Graph<'s, F> {
 
     pub(crate) fn place_in(
         &self,
+        units: &[BundleUnit],
         unit: usize,
         at: usize,
         end: usize,
     ) -> Result<FilePlace, AllocError> {
-        let path = self.told_path(unit)?;
-        let text = match self.units.get(unit) {
+        let path = self.told_path(units, unit)?;
+        let text = match units.get(unit) {
             Some(unit) => unit.text(),
             None => "",
         };
@@ -78,15 +90,17 @@ impl<'s, F: FileSystem + Drop> Graph<'s, F> {
     }
 
     // Tells an error of a file.
-    pub(crate) fn tell_file(&mut self, file: &FileName, why: String) -> Result<(), AllocError>
+    pub(crate) fn tell_file(
+        &mut self,
+        units: &[BundleUnit],
+        file: &FileName,
+        why: String,
+    ) -> Result<(), AllocError>
         ensures grows { self.old.messages.errors ≤ self.new.messages.errors }
         ensures told { OnOk result (0 < self.new.messages.errors) }
     {
         let place = match unit_in(file) {
-            Some(unit) => {
-                let path = self.told_path(self.file_behind(unit))?;
-                Some(FilePlace::of_file(self.alloc, path.as_str())?)
-            }
+            Some(unit) => Some(self.file_place(units, file_behind(units, unit))?),
             None => None,
         };
         self.messages.error(why, place, Vec::new(self.alloc))
@@ -95,6 +109,7 @@ impl<'s, F: FileSystem + Drop> Graph<'s, F> {
     // Tells an error of what stands in a file.
     pub(crate) fn tell_spot(
         &mut self,
+        units: &[BundleUnit],
         file: &FileName,
         spot: TextSpot<'_>,
         why: String,
@@ -103,57 +118,73 @@ impl<'s, F: FileSystem + Drop> Graph<'s, F> {
         ensures told { OnOk result (0 < self.new.messages.errors) }
     {
         let Some(number) = unit_in(file) else {
-            return self.tell_file(file, why);
+            return self.tell_file(units, file, why);
         };
-        let found = match self.units.get(number) {
+        let found = match units.get(number) {
             Some(unit) => spot_in(self.alloc, unit.text(), unit.kind, spot)?,
             None => None,
         };
         match found {
             Some((at, end)) => {
-                let place = self.place_in(number, at, end)?;
+                let place = self.place_in(units, number, at, end)?;
                 self.messages.error(why, Some(place), Vec::new(self.alloc))
             }
-            None => self.tell_file(file, why),
+            None => self.tell_file(units, file, why),
         }
     }
 
     // Tells an error of the request of a file that leads to the module of this key.
-    fn tell_link(&mut self, file: &FileName, key: &str, why: String) -> Result<(), AllocError>
+    fn tell_link(
+        &mut self,
+        units: &[BundleUnit],
+        file: &FileName,
+        key: &str,
+        why: String,
+    ) -> Result<(), AllocError>
         ensures grows { self.old.messages.errors ≤ self.new.messages.errors }
         ensures told { OnOk result (0 < self.new.messages.errors) }
     {
         let target = match unit_of(key) {
-            Some(unit) => Some(self.file_behind(unit)),
+            Some(unit) => Some(file_behind(units, unit)),
             None => None,
         };
         let Some(number) = unit_in(file) else {
-            return self.tell_file(file, why);
+            return self.tell_file(units, file, why);
         };
-        let found = match self.units.get(number) {
+        let found = match units.get(number) {
             Some(unit) => link_to(unit, target),
             None => None,
         };
         match found {
             Some((at, end)) => {
-                let place = self.place_in(number, at, end)?;
+                let place = self.place_in(units, number, at, end)?;
                 self.messages.error(why, Some(place), Vec::new(self.alloc))
             }
-            None => self.tell_file(file, why),
+            None => self.tell_file(units, file, why),
         }
     }
 
-    // The module of the file for which a module stands.
-    fn file_behind(&self, unit: usize) -> usize {
-        match self.units.get(unit) {
-            Some(
-                BundleUnit {
-                    origin: UnitOrigin::Facade { target, .. },
-                    ..
-                },
-            ) => *target,
-            _ => unit,
-        }
+    /// The file of a module, as a place.
+    pub(crate) fn file_place(
+        &self,
+        units: &[BundleUnit],
+        unit: usize,
+    ) -> Result<FilePlace, AllocError> {
+        let path = self.told_path(units, unit)?;
+        FilePlace::of_file(self.alloc, path.as_str())
+    }
+}
+
+// The module of the file for which a module stands.
+fn file_behind(units: &[BundleUnit], unit: usize) -> usize {
+    match units.get(unit) {
+        Some(
+            BundleUnit {
+                origin: UnitOrigin::Facade { target, .. },
+                ..
+            },
+        ) => *target,
+        _ => unit,
     }
 }
 

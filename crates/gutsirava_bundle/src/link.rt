@@ -1,23 +1,19 @@
-//! Where the requests of a module lead, and what stands for each.
+//! What stands for the requests of a module.
 
-ghost use Rattle.std.specs.Prelude.{◌≡◌, ◌≤◌};
+ghost use Rattle.std.specs.Prelude.{◌≤◌};
 
 use crate::bond::{Bond, Seats};
 use crate::facade::Facade;
-use crate::graph::{Asker, FoundUnit, Graph};
-use crate::settings::BundleSettings;
-use crate::unit::{UnitLink, UnitOrigin, key_of};
+use crate::graph::Asker;
+use crate::lead::RequestLead;
+use crate::settings::{BundleSettings, OutputFormat};
+use crate::teller::{Teller, TextPlace};
+use crate::unit::{UnitLink, key_of};
+use crate::unit_table::UnitTable;
 use bundle_syntax::Piece;
-use gutsirava_path::{Loader, Specifier, relative};
 use gutsirava_report::Note;
-use gutsirava_resolve::{
-    FileSystem, ResolutionError, ResolveRequest as Wanted, Resolved, TargetPlatform,
-};
 use gutsirava_sources::{RequestForm, RequestParts, SourceKind, SourceRequest, parts_of};
-use std::alloc::AllocError;
-
-/// So many paths are told where none of them is a file.
-const MOST_TRIED: usize = 6;
+use std::alloc::{AllocError, Global};
 
 /// A request of a file.
 #[derive(Clone, Copy)]
@@ -28,273 +24,223 @@ pub(crate) struct Wish<'x, 'a> {
     pub(crate) request: &'x SourceRequest<'a>,
     /// The number of the request.
     pub(crate) number: usize,
+    /// Where its specifier stands in the text of the file.
+    pub(crate) at: usize,
 }
 
-impl<'s, F: FileSystem + Drop> Graph<'s, F> {
-    /// What stands for a request of a file.
-    pub(crate) fn bond(
-        &mut self,
-        wish: Wish<'_, '_>,
-        link: &mut UnitLink,
-    ) -> Result<Bond, AllocError>
-        ensures { self.old.messages.errors ≤ self.new.messages.errors }
-    {
-        let wanted = Wanted {
-            specifier: wish.request.specifier,
-            importer: wish.asker.path,
-            loader: loader_of(wish.request.asking),
-        };
-        let resolved = self.resolver.resolve(wanted);
-        match &resolved {
-            Ok(resolution) => self.bond_resolved(wish, link, resolution),
-            Err(ResolutionError::Memory(_)) => Err(AllocError),
-            Err(_) if wish.request.is_tried => self.stay(wish.request.specifier),
-            Err(error) => self.refuse_unresolved(wish, link, error),
+impl<'x> Wish<'x, '_> {
+    // Where the specifier stands, with its quotes.
+    fn place(self) -> TextPlace<'x> {
+        TextPlace {
+            path: self.asker.path,
+            text: self.asker.text,
+            at: self.at,
+            length: self.request.specifier.len().saturating_add(2),
         }
     }
 
-    // What stands for a request that was resolved.
-    fn bond_resolved(
-        &mut self,
-        wish: Wish<'_, '_>,
-        link: &mut UnitLink,
-        resolution: &Resolved,
-    ) -> Result<Bond, AllocError>
-        ensures { self.old.messages.errors ≤ self.new.messages.errors }
-    {
-        match resolution {
-            Resolved::File { path, suffix } => self.bond_file(wish, link, path, suffix),
-            Resolved::Builtin(_) => {
-                let is_told = matches!(self.settings.platform, TargetPlatform::Browser);
-                self.bond_outside(wish, link, is_told)
+    // The link of the request, which leads to this module.
+    fn link(self, target: Option<usize>) -> UnitLink {
+        let TextPlace { at, length, .. } = self.place();
+        UnitLink {
+            asking: self.request.asking,
+            at,
+            length,
+            target,
+        }
+    }
+}
+
+/// What stands for a request, and where it leads.
+#[derive(Drop)]
+pub(crate) struct BondedRequest {
+    pub(crate) bond: Bond,
+    pub(crate) link: UnitLink,
+}
+
+// What a request is to name in the tree.
+#[derive(Drop)]
+enum RequestTarget {
+    Unit(usize),
+    /// The text stays, or stands in the place of the specifier.
+    Text(String),
+}
+
+/// What stands for a request that leads to this, and where it leads.
+pub(crate) fn bonded(
+    teller: &mut Teller<'_>,
+    table: &mut UnitTable,
+    settings: &BundleSettings,
+    wish: Wish<'_, '_>,
+    lead: RequestLead,
+) -> Result<BondedRequest, AllocError>
+    ensures { teller.old.messages.errors ≤ teller.new.messages.errors }
+{
+    let target = request_target(teller, table, settings, wish, lead)?;
+    table.bonded_to(wish, target)
+}
+
+// What a request is to name that leads to this.
+fn request_target(
+    teller: &mut Teller<'_>,
+    table: &mut UnitTable,
+    settings: &BundleSettings,
+    wish: Wish<'_, '_>,
+    lead: RequestLead,
+) -> Result<RequestTarget, AllocError>
+    ensures { teller.old.messages.errors ≤ teller.new.messages.errors }
+{
+    match lead {
+        RequestLead::Unit(unit) => unit_target(teller, table, wish, unit),
+        RequestLead::Left { text, is_told } => {
+            if is_told {
+                teller.tell_left(wish.request.specifier, wish.place())?;
             }
-            Resolved::External(_) => {
-                let loader = loader_of(wish.request.asking);
-                let is_told = is_address(wish.request.specifier, loader);
-                self.bond_outside(wish, link, is_told)
-            }
-            Resolved::ExternalFile(path) => self.bond_path(wish, link, path),
-            Resolved::Empty(_) => {
-                let unit = self.facade(0, Facade::Empty)?;
-                self.bond_to(wish, link, unit)
-            }
+            left_target(teller, table, settings, wish, text)
         }
+        RequestLead::Stays => table.stay(wish.request.specifier),
+        RequestLead::Nowhere { why, notes } => refuse(teller, table, wish, why, notes),
     }
+}
 
-    // What stands for a request whose specifier is left, which may have to be told.
-    fn bond_outside(
-        &mut self,
-        wish: Wish<'_, '_>,
-        link: &mut UnitLink,
-        is_told: bool,
-    ) -> Result<Bond, AllocError>
-        ensures { self.old.messages.errors ≤ self.new.messages.errors }
+// The same of what leads to a module. Only for CommonJS modules is an ECMAScript module in the registry.
+fn unit_target(
+    teller: &mut Teller<'_>,
+    table: &mut UnitTable,
+    wish: Wish<'_, '_>,
+    unit: usize,
+) -> Result<RequestTarget, AllocError>
+    ensures { teller.old.messages.errors ≤ teller.new.messages.errors }
+{
+    if wish.request.asking != RequestForm::Require
+        || wish.asker.kind == SourceKind::CommonJs
+        || table.kind_of(unit) == SourceKind::CommonJs
     {
-        if is_told {
-            self.tell_left(wish, link)?;
+        return Ok(RequestTarget::Unit(unit));
+    }
+    if wish.request.is_tried {
+        return table.stay(wish.request.specifier);
+    }
+    let specifier = wish.request.specifier;
+    let why = format!(in teller.alloc;
+        "require() of the ECMAScript module {specifier:?} by an ECMAScript module, which import is for"
+    )?;
+    let notes = Vec::new(teller.alloc);
+    refuse(teller, table, wish, why, notes)
+}
+
+// The same of what is left under this text: in a module the text; in a script what stands for it.
+fn left_target(
+    teller: &mut Teller<'_>,
+    table: &mut UnitTable,
+    settings: &BundleSettings,
+    wish: Wish<'_, '_>,
+    text: String,
+) -> Result<RequestTarget, AllocError>
+    ensures { teller.old.messages.errors ≤ teller.new.messages.errors }
+{
+    table.leave(text.as_str())?;
+    match outer_expression(teller.alloc, settings, wish.request, text.as_str())? {
+        Some(expression) => {
+            outer_target(teller, table, wish, text.as_str(), expression.as_str())
         }
-        self.left(wish, link, wish.request.specifier)
+        None => Ok(RequestTarget::Text(text)),
     }
+}
 
-    // What stands for a request of a file that is left.
-    fn bond_path(
-        &mut self,
-        wish: Wish<'_, '_>,
-        link: &mut UnitLink,
-        path: &str,
-    ) -> Result<Bond, AllocError>
-        ensures { self.old.messages.errors ≤ self.new.messages.errors }
-    {
-        let text = self.left_text(path)?;
-        self.left(wish, link, text.as_str())
-    }
-
-    // What stands for a request of the file at a path.
-    fn bond_file(
-        &mut self,
-        wish: Wish<'_, '_>,
-        link: &mut UnitLink,
-        path: &str,
-        suffix: &str,
-    ) -> Result<Bond, AllocError>
-        ensures { self.old.messages.errors ≤ self.new.messages.errors }
-    {
-        if path.ends_with(".node") {
-            return self.bond_path(wish, link, path);
-        }
-        match self.discover(path, suffix)? {
-            FoundUnit::Unit(unit) => self.bond_to(wish, link, unit),
-            FoundUnit::Unread(why) => self.refuse(wish, link, why),
-        }
-    }
-
-    // Tells why a request leads nowhere.
-    fn refuse(
-        &mut self,
-        wish: Wish<'_, '_>,
-        link: &UnitLink,
-        why: String,
-    ) -> Result<Bond, AllocError>
-        ensures { self.old.messages.errors ≤ self.new.messages.errors }
-    {
-        let asker = wish.asker;
-        self.fault(asker.path, asker.text, link.at, link.length, why)?;
-        self.stay(wish.request.specifier)
-    }
-
-    // Tells why a request is not resolved, and what was tried.
-    fn refuse_unresolved(
-        &mut self,
-        wish: Wish<'_, '_>,
-        link: &UnitLink,
-        error: &ResolutionError,
-    ) -> Result<Bond, AllocError>
-        ensures { self.old.messages.errors ≤ self.new.messages.errors }
-    {
-        let asker = wish.asker;
-        let place = self.place(asker.path, asker.text, link.at, link.length)?;
-        let notes = self.tried_notes(error)?;
-        let why = format!(in self.alloc; "{error}")?;
-        self.messages.error(why, Some(place), notes)?;
-        self.stay(wish.request.specifier)
-    }
-
-    // What is noted of a request that is not resolved.
-    fn tried_notes(&self, error: &ResolutionError) -> Result<Vec<Note>, AllocError> {
-        let mut notes = Vec::new(self.alloc);
-        if let ResolutionError::NotFound { tried, .. } = error
-            && !tried.is_empty()
-        {
-            notes.push(Note {
-                text: self.tried_text(tried.as_slice())?,
-                place: None,
-            })?;
-        }
-        Ok(notes)
-    }
-
-    // The paths that were tried, the first ones of them.
-    fn tried_text(&self, tried: &[String]) -> Result<String, AllocError> {
-        let mut text = String::from_str(self.alloc, "no file is at ")?;
-        for (number, path) in tried.iter().take(MOST_TRIED).enumerate() {
-            if number > 0 {
-                text.push_str(", ")?;
-            }
-            text.push_str(self.shown(path.as_str())?.as_str())?;
-        }
-        if tried.len() > MOST_TRIED {
-            text.push_str(", ..")?;
-        }
-        Ok(text)
-    }
-
-    // The text of a request stays.
-    fn stay(&mut self, text: &str) -> Result<Bond, AllocError>
-        ensures { self.old.messages.errors ≤ self.new.messages.errors }
-    {
-        self.leave(text)?;
-        Bond::to_left(self.alloc, text)
-    }
-
-    // Notes a text that is left.
-    fn leave(&mut self, text: &str) -> Result<(), AllocError>
-        ensures { self.new.messages.errors ≡ self.old.messages.errors }
-    {
-        self.externals.insert(String::from_str(self.alloc, text)?)?;
-        Ok(())
-    }
-
-    // The path of a file that is left, from where the bundle lies.
-    fn left_text(&self, path: &str) -> Result<String, AllocError> {
-        relative(self.alloc, self.settings.output_folder.as_str(), path)
-    }
-
-    // Tells once of a specifier that it is left.
-    fn tell_left(&mut self, wish: Wish<'_, '_>, link: &UnitLink) -> Result<(), AllocError>
-        ensures { self.old.messages.errors ≤ self.new.messages.errors }
-    {
+// The same of what is this expression in a script.
+fn outer_target(
+    teller: &mut Teller<'_>,
+    table: &mut UnitTable,
+    wish: Wish<'_, '_>,
+    text: &str,
+    expression: &str,
+) -> Result<RequestTarget, AllocError>
+    ensures { teller.old.messages.errors ≤ teller.new.messages.errors }
+{
+    if parts_of(wish.pieces, wish.request).star {
         let specifier = wish.request.specifier;
-        if !self.told.insert(String::from_str(self.alloc, specifier)?)? {
-            return Ok(());
-        }
-        let asker = wish.asker;
-        let why = format!(in self.alloc; "{specifier:?} is left as it is")?;
-        self.warn(asker.path, asker.text, link.at, link.length, why)
+        let why = format!(in teller.alloc;
+            "export * of {specifier:?}, which is left, in a script: its names are not known"
+        )?;
+        let notes = Vec::new(teller.alloc);
+        return refuse(teller, table, wish, why, notes);
     }
+    Ok(RequestTarget::Unit(table.outer_unit(text, expression)?))
+}
 
-    // What is left under this text: in a module the text; in a script what stands for it.
-    fn left(
-        &mut self,
-        wish: Wish<'_, '_>,
-        link: &mut UnitLink,
-        text: &str,
-    ) -> Result<Bond, AllocError>
-        ensures { self.old.messages.errors ≤ self.new.messages.errors }
-    {
+// Tells why a request leads nowhere. Its specifier stays.
+fn refuse(
+    teller: &mut Teller<'_>,
+    table: &mut UnitTable,
+    wish: Wish<'_, '_>,
+    why: String,
+    notes: Vec<Note>,
+) -> Result<RequestTarget, AllocError>
+    ensures { teller.old.messages.errors ≤ teller.new.messages.errors }
+{
+    teller.fault(wish.place(), why, notes)?;
+    table.stay(wish.request.specifier)
+}
+
+// What stands in a script for what is left under this text; none where the text does.
+fn outer_expression(
+    alloc: Global,
+    settings: &BundleSettings,
+    request: &SourceRequest<'_>,
+    text: &str,
+) -> Result<Option<String>, AllocError> {
+    let asking = request.asking;
+    if settings.format != OutputFormat::Iife || asking == RequestForm::Dynamic {
+        return Ok(None);
+    }
+    if let Some(global) = global_of(settings, request.specifier) {
+        return Ok(Some(String::from_str(alloc, global)?));
+    }
+    if asking == RequestForm::Import {
+        return Ok(Some(format!(in alloc; "require({text:?})")?));
+    }
+    Ok(None)
+}
+
+impl UnitTable {
+    // The text of a request stays.
+    fn stay(&mut self, text: &str) -> Result<RequestTarget, AllocError> {
         self.leave(text)?;
-        match self.outer_expression(wish, text)? {
-            Some(expression) => self.bond_outer(wish, link, text, expression.as_str()),
-            None => Bond::to_left(self.alloc, text),
-        }
+        Ok(RequestTarget::Text(String::from_str(self.alloc, text)?))
     }
 
-    // What stands in a script for what is left under this text; none where the text does.
-    fn outer_expression(
-        &self,
-        wish: Wish<'_, '_>,
-        text: &str,
-    ) -> Result<Option<String>, AllocError> {
-        let asking = wish.request.asking;
-        if !self.is_script() || asking == RequestForm::Dynamic {
-            return Ok(None);
-        }
-        if let Some(global) = global_of(self.settings, wish.request.specifier) {
-            return Ok(Some(String::from_str(self.alloc, global)?));
-        }
-        if asking == RequestForm::Import {
-            return Ok(Some(format!(in self.alloc; "require({text:?})")?));
-        }
-        Ok(None)
-    }
-
-    // What stands for a request of what is this expression in a script.
-    fn bond_outer(
+    // What stands for a request that names this, and where it leads.
+    fn bonded_to(
         &mut self,
         wish: Wish<'_, '_>,
-        link: &mut UnitLink,
-        text: &str,
-        expression: &str,
-    ) -> Result<Bond, AllocError>
-        ensures { self.old.messages.errors ≤ self.new.messages.errors }
-    {
-        if parts_of(wish.pieces, wish.request).star {
-            let specifier = wish.request.specifier;
-            let why = format!(in self.alloc;
-                "export * of {specifier:?}, which is left, in a script: its names are not known"
-            )?;
-            return self.refuse(wish, link, why);
+        target: RequestTarget,
+    ) -> Result<BondedRequest, AllocError> {
+        match target {
+            RequestTarget::Text(text) => Ok(BondedRequest {
+                bond: Bond::Left(text),
+                link: wish.link(None),
+            }),
+            RequestTarget::Unit(unit) => Ok(BondedRequest {
+                bond: self.bond_to(wish, unit)?,
+                link: wish.link(Some(unit)),
+            }),
         }
-        let unit = self.outer_unit(text, expression)?;
-        self.bond_to(wish, link, unit)
     }
 
     // What stands for a request that leads to a module.
-    fn bond_to(
-        &mut self,
-        wish: Wish<'_, '_>,
-        link: &mut UnitLink,
-        unit: usize,
-    ) -> Result<Bond, AllocError>
-        ensures { self.old.messages.errors ≤ self.new.messages.errors }
-    {
+    fn bond_to(&mut self, wish: Wish<'_, '_>, unit: usize) -> Result<Bond, AllocError> {
         let kind = self.kind_of(unit);
-        link.target = Some(unit);
         match wish.request.asking {
             RequestForm::Import => self.bond_parts(wish, unit, kind),
             RequestForm::Require if kind == SourceKind::CommonJs => {
                 Bond::to_module(self.alloc, unit)
             }
-            RequestForm::Require => self.required_module(wish, link, unit),
+            RequestForm::Require => {
+                self.asks_modules = true;
+                let got = self.facade(unit, Facade::Got)?;
+                Bond::to_module(self.alloc, got)
+            }
             RequestForm::Dynamic => self.dynamic(wish, unit, kind),
         }
     }
@@ -305,75 +251,36 @@ impl<'s, F: FileSystem + Drop> Graph<'s, F> {
         wish: Wish<'_, '_>,
         unit: usize,
         kind: SourceKind,
-    ) -> Result<Bond, AllocError>
-        ensures { self.old.messages.errors ≤ self.new.messages.errors }
-    {
+    ) -> Result<Bond, AllocError> {
         let parts = parts_of(wish.pieces, wish.request);
         if kind == SourceKind::EcmaScript && !parts.namespace {
             return Bond::to_module(self.alloc, unit);
         }
         let seats = match kind {
             SourceKind::EcmaScript => self.module_seats(unit)?,
-            SourceKind::CommonJs => self.common_js_seats(wish.asker, parts, unit)?,
+            SourceKind::CommonJs => {
+                let is_whole = wish.asker.is_node || self.is_data(unit);
+                self.common_js_seats(is_whole, parts, unit)?
+            }
         };
         Bond::to_parts(self.alloc, seats)
     }
 
-    // What stands for a `require` of an ECMAScript module. Only for CommonJS modules is it in the registry.
-    fn required_module(
-        &mut self,
-        wish: Wish<'_, '_>,
-        link: &mut UnitLink,
-        unit: usize,
-    ) -> Result<Bond, AllocError>
-        ensures { self.old.messages.errors ≤ self.new.messages.errors }
-    {
-        if wish.asker.kind == SourceKind::CommonJs {
-            self.asks_modules = true;
-            let got = self.facade(unit, Facade::Got)?;
-            return Bond::to_module(self.alloc, got);
-        }
-        link.target = None;
-        if wish.request.is_tried {
-            return self.stay(wish.request.specifier);
-        }
-        let specifier = wish.request.specifier;
-        let why = format!(in self.alloc;
-            "require() of the ECMAScript module {specifier:?} by an ECMAScript module, which import is for"
-        )?;
-        self.refuse(wish, link, why)
-    }
-
     // The modules that stand for an ECMAScript module whose namespace is asked for as a value.
-    fn module_seats(&mut self, unit: usize) -> Result<Seats, AllocError>
-        ensures { self.old.messages.errors ≤ self.new.messages.errors }
-    {
-        Ok(Seats {
-            names: unit,
-            star: unit,
-            run: unit,
-            default: unit,
-            namespace: self.facade(unit, Facade::Namespace)?,
-        })
+    fn module_seats(&mut self, unit: usize) -> Result<Seats, AllocError> {
+        let mut seats = Seats::of(unit);
+        seats.namespace = self.facade(unit, Facade::Namespace)?;
+        Ok(seats)
     }
 
     // The modules that stand between a CommonJS module and one that imports it.
     fn common_js_seats(
         &mut self,
-        asker: Asker<'_>,
+        is_whole: bool,
         parts: RequestParts,
         unit: usize,
-    ) -> Result<Seats, AllocError>
-        ensures { self.old.messages.errors ≤ self.new.messages.errors }
-    {
-        let is_whole = asker.is_node || self.is_data(unit);
-        let mut seats = Seats {
-            names: unit,
-            star: unit,
-            run: unit,
-            default: unit,
-            namespace: unit,
-        };
+    ) -> Result<Seats, AllocError> {
+        let mut seats = Seats::of(unit);
         if parts.default {
             let facade = chosen(is_whole, Facade::NodeDefault, Facade::BundlerDefault);
             seats.default = self.facade(unit, facade)?;
@@ -390,23 +297,13 @@ impl<'s, F: FileSystem + Drop> Graph<'s, F> {
         Ok(seats)
     }
 
-    // Whether a module is JSON.
-    fn is_data(&self, unit: usize) -> bool {
-        match self.units.get(unit) {
-            Some(unit) => matches!(unit.origin, UnitOrigin::File { is_data: true, .. }),
-            None => false,
-        }
-    }
-
     // What stands for an `import()`.
     fn dynamic(
         &mut self,
         wish: Wish<'_, '_>,
         unit: usize,
         kind: SourceKind,
-    ) -> Result<Bond, AllocError>
-        ensures { self.old.messages.errors ≤ self.new.messages.errors }
-    {
+    ) -> Result<Bond, AllocError> {
         let is_whole = wish.asker.is_node || self.is_data(unit);
         let asking = wish.asker.kind;
         if asking == SourceKind::CommonJs && kind == SourceKind::EcmaScript {
@@ -444,17 +341,6 @@ fn global_of<'s>(settings: &'s BundleSettings, specifier: &str) -> Option<&'s st
     None
 }
 
-fn is_address(specifier: &str, loader: Loader) -> bool {
-    matches!(Specifier::of(specifier, loader), Specifier::Url(_))
-}
-
 fn chosen(is_whole: bool, whole: Facade, part: Facade) -> Facade {
     if is_whole { whole } else { part }
-}
-
-fn loader_of(asking: RequestForm) -> Loader {
-    match asking {
-        RequestForm::Import | RequestForm::Dynamic => Loader::EcmaScript,
-        RequestForm::Require => Loader::CommonJs,
-    }
 }

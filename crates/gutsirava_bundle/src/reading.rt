@@ -1,27 +1,31 @@
-//! Modules are read, and made trees for the linker.
+//! The files of modules are read, and made trees for the linker.
 
 ghost use Rattle.std.specs.Prelude.{◌≡◌, ◌≤◌};
 
 use crate::bond::{Bond, stands_of};
-use crate::facade::{Facade, HELPER, NAMESPACE, PUT, REGISTRY, TARGET};
 use crate::graph::{Asker, Graph, MOST_DEPTH};
-use crate::link::Wish;
+use crate::link::{BondedRequest, Wish, bonded};
 use crate::progress::ProgressListener;
-use crate::unit::{BundleUnit, ExportTable, UnitLink, UnitOrigin, target_of};
+use crate::settings::{BundleSettings, OutputFormat};
+use crate::spot::place_of;
+use crate::teller::{Teller, TextPlace};
+use crate::unit::{ExportTable, UnitFile, UnitLink, UnitOrigin, target_of};
+use crate::unit_table::UnitTable;
 use bundle_syntax::{ExportMetadata, Node, Piece};
 use bundle_tree_ast::Module;
 use bundle_tree_parse::{BuildError, build_module};
 use gutsirava_resolve::FileSystem;
 use gutsirava_sources::{
-    Exported, KeptComment, Placed, ReadError, Seat, SourceKind, SourceModule, SourceOutline, Stand,
-    common_js_exports, exports_of, outline_of, read_as, rewritten,
+    Exported, KeptComment, KnownKind, Placed, ReadError, Seat, SourceKind, SourceModule,
+    SourceOutline, SourceRecords, Stand, common_js_exports, exports_of, outline_of, read_known,
+    rewritten,
 };
 use std::alloc::{AllocError, Global};
 
 // How a module is read.
-#[derive(Clone, Copy)]
+#[derive(Drop)]
 struct UnitForm {
-    kind: SourceKind,
+    known: KnownKind,
     is_node: bool,
     is_main: bool,
 }
@@ -42,222 +46,82 @@ struct Read {
 }
 
 impl<'s, F: FileSystem + Drop> Graph<'s, F> {
-    /// Reads all modules, those too that are found on the way, as long as not too much is wrong: those of files, and
-    /// then those between them, for which these have to be known.
-    pub(crate) fn read_all<P: ProgressListener>(
+    /// Reads the files of all modules, those too that are found on the way, as long as not too much is wrong.
+    pub(crate) fn read_files<P: ProgressListener>(
         &mut self,
         progress: &mut P,
     ) -> Result<(), AllocError>
-        ensures { self.old.messages.errors ≤ self.new.messages.errors }
-    {
-        self.read_each(true, progress)?;
-        if self.messages.errors > 0 {
-            return Ok(());
-        }
-        self.read_each(false, progress)
-    }
-
-    // Reads the modules of this sort, those too that are found on the way.
-    fn read_each<P: ProgressListener>(
-        &mut self,
-        is_file: bool,
-        progress: &mut P,
-    ) -> Result<(), AllocError>
-        ensures { self.old.messages.errors ≤ self.new.messages.errors }
+        ensures { self.old.teller.messages.errors ≤ self.new.teller.messages.errors }
     {
         for at in 0..usize::MAX {
-            if at >= self.units.len() || self.messages.is_full() {
+            if at >= self.table.units.len() || self.teller.messages.is_full() {
                 break;
             }
-            if is_file {
-                progress.has_found(self.units.len());
-            }
-            self.read_unit(at, is_file)?;
+            progress.has_found(self.table.units.len());
+            self.read_unit(at)?;
         }
         Ok(())
     }
 
-    // Reads a module, where it is of this sort.
-    fn read_unit(&mut self, at: usize, is_file: bool) -> Result<(), AllocError>
-        ensures { self.old.messages.errors ≤ self.new.messages.errors }
+    // Reads the file of a module, where that has one.
+    fn read_unit(&mut self, at: usize) -> Result<(), AllocError>
+        ensures { self.old.teller.messages.errors ≤ self.new.teller.messages.errors }
     {
-        let Some((origin, form)) = self.begin_unit(at, is_file) else {
+        let Some((file, form)) = self.table.begin_file(at) else {
             return Ok(());
         };
-        let read = self.read_origin(&origin, form)?;
-        self.end_unit(at, origin, read);
+        let read = self.read_file(&file, form)?;
+        self.table.end_file(at, file, read);
         Ok(())
     }
 
-    // What is read of a module, where it is of this sort and is not done; it is then.
-    fn begin_unit(&mut self, at: usize, is_file: bool) -> Option<(UnitOrigin, UnitForm)>
-        ensures { self.new.messages.errors ≡ self.old.messages.errors }
+    fn read_file(&mut self, file: &UnitFile, form: UnitForm) -> Result<Option<Read>, AllocError>
+        ensures { self.old.teller.messages.errors ≤ self.new.teller.messages.errors }
     {
-        let unit = self.units.get_mut(at)?;
-        if unit.is_done || unit.path().is_some() != is_file {
-            return None;
-        }
-        unit.is_done = true;
-        let form = UnitForm {
-            kind: unit.kind,
-            is_node: unit.is_node,
-            is_main: unit.is_main,
-        };
-        let blank = UnitOrigin::Text(String::new(self.alloc));
-        Some((std::mem::replace(&mut unit.origin, blank), form))
-    }
-
-    // Puts back what a module comes from, with what was read of it.
-    fn end_unit(&mut self, at: usize, origin: UnitOrigin, read: Option<Read>)
-        ensures { self.new.messages.errors ≡ self.old.messages.errors }
-    {
-        if let Some(unit) = self.units.get_mut(at) {
-            unit.origin = origin;
-            if let Some(read) = read {
-                put_read(unit, read);
-            }
+        let asker = asker_of(file, &form);
+        match read_known(self.table.alloc, asker.text, form.known) {
+            Ok(source) => self.read_source(asker, file.is_data, &source),
+            Err(error) => leave_unread(&mut self.teller, asker, error),
         }
     }
 
-    fn read_origin(
-        &mut self,
-        origin: &UnitOrigin,
-        form: UnitForm,
-    ) -> Result<Option<Read>, AllocError>
-        ensures { self.old.messages.errors ≤ self.new.messages.errors }
-    {
-        let kind = form.kind;
-        match origin {
-            UnitOrigin::File {
-                path,
-                text,
-                is_data,
-            } => {
-                let asker = Asker {
-                    path: path.as_str(),
-                    text: text.as_str(),
-                    kind,
-                    is_node: form.is_node,
-                    is_main: form.is_main,
-                };
-                self.read_file(asker, *is_data)
-            }
-            UnitOrigin::Facade { facade, target } => {
-                let text = self.facade_text(*facade, *target)?;
-                self.read_text(text.as_str(), kind, *target)
-            }
-            UnitOrigin::Text(text) => self.read_text(text.as_str(), kind, 0),
-        }
-    }
-
-    fn read_file(&mut self, asker: Asker<'_>, is_data: bool) -> Result<Option<Read>, AllocError>
-        ensures { self.old.messages.errors ≤ self.new.messages.errors }
-    {
-        let source = match read_as(self.alloc, asker.text, asker.kind) {
-            Ok(source) => source,
-            Err(error) => return self.leave_unread(asker, error),
-        };
-        let notes = ExportMetadata::default();
-        match source.pieces(self.alloc, MOST_DEPTH) {
-            Ok(placed) => {
-                let kept = self.comments(&source, &placed)?;
-                let comments = kept.as_slice();
-                self.read_placed(asker, is_data, &placed, comments, &notes)
-            }
-            Err(error) => self.leave_unread(asker, error),
-        }
-    }
-
-    // Tells what is wrong with the text of a module, of which nothing comes.
-    fn leave_unread(
+    fn read_source(
         &mut self,
         asker: Asker<'_>,
-        error: ReadError,
+        is_data: bool,
+        source: &SourceModule<'_>,
     ) -> Result<Option<Read>, AllocError>
-        ensures { self.old.messages.errors ≤ self.new.messages.errors }
+        ensures { self.old.teller.messages.errors ≤ self.new.teller.messages.errors }
     {
-        self.tell_unread(asker.path, asker.text, error)?;
-        Ok(None)
+        match source.pieces(self.table.alloc, MOST_DEPTH) {
+            Ok(placed) => {
+                let kept = comments_of(self.table.alloc, self.settings, source, &placed)?;
+                self.read_placed(asker, is_data, &placed, kept.as_slice())
+            }
+            Err(error) => leave_unread(&mut self.teller, asker, error),
+        }
     }
 
     // What comes of the list of a file.
-    fn read_placed<'n>(
+    fn read_placed(
         &mut self,
         asker: Asker<'_>,
         is_data: bool,
         placed: &Placed<'_>,
         comments: &[KeptComment<'_>],
-        notes: &'n ExportMetadata,
     ) -> Result<Option<Read>, AllocError>
-    where
-        's: 'n,
-        ensures { self.old.messages.errors ≤ self.new.messages.errors }
+        ensures { self.old.teller.messages.errors ≤ self.new.teller.messages.errors }
     {
-        let outline = outline_of(self.alloc, placed.pieces.as_slice())?;
-        self.tell_outline(asker, placed, &outline)?;
+        let settings = self.settings;
+        let outline = outline_of(self.table.alloc, placed.pieces.as_slice())?;
+        tell_outline(&mut self.teller, settings, asker, placed, &outline)?;
         let bonded = self.bonds(asker, &*placed, &outline)?;
-        let seat = self.seat(asker, is_data, notes);
-        self.read_bonded(asker, placed, &outline, bonded, comments, seat)
-    }
-
-    // The same where it is known what stands for its requests.
-    fn read_bonded<'a>(
-        &mut self,
-        asker: Asker<'_>,
-        placed: &Placed<'a>,
-        outline: &SourceOutline<'a>,
-        bonded: BondedRequests,
-        comments: &[KeptComment<'_>],
-        seat: Seat<'_>,
-    ) -> Result<Option<Read>, AllocError>
-        ensures { self.old.messages.errors ≤ self.new.messages.errors }
-    {
-        let alloc = self.alloc;
-        let pieces = placed.pieces.as_slice();
-        match tree_of(
-            alloc,
-            pieces,
-            outline,
-            bonded.bonds.as_slice(),
-            comments,
-            seat,
-        )? {
-            Some(tree) => {
-                let read = read_of(alloc, asker.kind, pieces, outline, tree, bonded)?;
-                Ok(Some(read))
-            }
-            None => self.tell_internal(asker.path),
-        }
-    }
-
-    // What a module of a file is, and what it keeps.
-    fn seat<'n>(&self, asker: Asker<'_>, is_data: bool, notes: &'n ExportMetadata) -> Seat<'n>
-    where
-        's: 'n,
-    {
-        Seat {
-            kind: asker.kind,
-            keeps_meta: !self.is_script(),
-            meta_url: self.settings.meta_url.as_ref().map(|url| url.as_str()),
-            is_main: asker.is_main,
+        let seat = SeatForm {
+            asker,
             is_data,
-            notes,
-        }
-    }
-
-    // The comments of a module that stay.
-    fn comments<'a>(
-        &self,
-        source: &'a SourceModule<'_>,
-        placed: &Placed<'_>,
-    ) -> Result<Vec<KeptComment<'a>>, AllocError> {
-        if !self.settings.keeps_comments {
-            return Ok(Vec::new(self.alloc));
-        }
-        match source.comments(self.alloc, placed) {
-            Ok(comments) => Ok(comments),
-            Err(_) => Err(AllocError),
-        }
+            settings,
+        };
+        read_bonded(&mut self.teller, seat, placed, &outline, bonded, comments)
     }
 
     // What stands for each request of a module, and where each leads.
@@ -267,205 +131,224 @@ impl<'s, F: FileSystem + Drop> Graph<'s, F> {
         placed: &'x Placed<'a>,
         outline: &'x SourceOutline<'a>,
     ) -> Result<BondedRequests, AllocError>
-        ensures { self.old.messages.errors ≤ self.new.messages.errors }
+        ensures { self.old.teller.messages.errors ≤ self.new.teller.messages.errors }
     {
-        let mut bonded = BondedRequests {
-            bonds: Vec::new(self.alloc),
-            links: Vec::new(self.alloc),
-        };
+        let mut bonded = BondedRequests::new(self.table.alloc);
         for (number, request) in outline.requests.iter().enumerate() {
             let wish = Wish {
                 asker,
                 pieces: placed.pieces.as_slice(),
                 request,
                 number,
+                at: place_of(placed, request.place),
             };
-            self.add_bond(wish, place_of(placed, request.place), &mut bonded)?;
+            bonded.push(self.bonded_request(wish)?)?;
         }
         Ok(bonded)
     }
 
-    // Adds what stands for a request, whose specifier stands at this place, and where it leads.
-    fn add_bond(
-        &mut self,
-        wish: Wish<'_, '_>,
-        at: usize,
-        bonded: &mut BondedRequests,
-    ) -> Result<(), AllocError>
-        ensures { self.old.messages.errors ≤ self.new.messages.errors }
+    // What stands for a request, and where it leads.
+    fn bonded_request(&mut self, wish: Wish<'_, '_>) -> Result<BondedRequest, AllocError>
+        ensures { self.old.teller.messages.errors ≤ self.new.teller.messages.errors }
     {
-        let mut link = UnitLink {
-            asking: wish.request.asking,
-            at,
-            length: wish.request.specifier.len().saturating_add(2),
-            target: None,
-        };
-        let bond = self.bond(wish, &mut link)?;
-        bonded.push(bond, link)
-    }
-
-    // A module of a text of the command's own.
-    fn read_text(
-        &mut self,
-        text: &str,
-        kind: SourceKind,
-        target: usize,
-    ) -> Result<Option<Read>, AllocError>
-        ensures { self.old.messages.errors ≤ self.new.messages.errors }
-    {
-        match self.text_tree(text, kind, target)? {
-            Some(tree) => Ok(Some(Read {
-                tree,
-                links: Vec::new(self.alloc),
-                table: ExportTable::new(self.alloc),
-            })),
-            None => self.tell_internal(text),
-        }
-    }
-
-    // The tree of a text of the command's own; none where it is that of no module.
-    fn text_tree(
-        &mut self,
-        text: &str,
-        kind: SourceKind,
-        target: usize,
-    ) -> Result<Option<Module>, AllocError>
-        ensures { self.old.messages.errors ≤ self.new.messages.errors }
-    {
-        let Ok(source) = read_as(self.alloc, text, kind) else {
-            return Ok(None);
-        };
-        let Ok(placed) = source.pieces(self.alloc, MOST_DEPTH) else {
-            return Ok(None);
-        };
-        let notes = ExportMetadata::default();
-        self.listed_tree(placed.pieces.as_slice(), &notes, kind, target)
-    }
-
-    // The same of its list.
-    fn listed_tree(
-        &mut self,
-        pieces: &[Piece<'_>],
-        notes: &ExportMetadata,
-        kind: SourceKind,
-        target: usize,
-    ) -> Result<Option<Module>, AllocError>
-        ensures { self.old.messages.errors ≤ self.new.messages.errors }
-    {
-        let outline = outline_of(self.alloc, pieces)?;
-        let bonds = self.text_bonds(&outline, target)?;
-        let seat = own_seat(kind, notes);
-        tree_of(self.alloc, pieces, &outline, &bonds, &[], seat)
-    }
-
-    // What stands for each request of a text of the command's own.
-    fn text_bonds(
-        &mut self,
-        outline: &SourceOutline<'_>,
-        target: usize,
-    ) -> Result<Vec<Bond>, AllocError>
-        ensures { self.old.messages.errors ≤ self.new.messages.errors }
-    {
-        let mut bonds = Vec::new(self.alloc);
-        for request in &outline.requests {
-            let bond = self.text_bond(request.specifier, target)?;
-            push_bond(&mut bonds, bond)?;
-        }
-        Ok(bonds)
-    }
-
-    fn text_bond(&mut self, specifier: &str, target: usize) -> Result<Bond, AllocError>
-        ensures { self.old.messages.errors ≤ self.new.messages.errors }
-    {
-        match self.named_unit(specifier, target)? {
-            Some(unit) => Bond::to_module(self.alloc, unit),
-            None => Bond::to_left(self.alloc, specifier),
-        }
-    }
-
-    // The module that a text of the command's own names for a target.
-    fn named_unit(&mut self, specifier: &str, target: usize) -> Result<Option<usize>, AllocError>
-        ensures { self.old.messages.errors ≤ self.new.messages.errors }
-    {
-        let unit = match specifier {
-            TARGET => target,
-            HELPER => self.facade(0, Facade::Helper)?,
-            REGISTRY => self.facade(0, Facade::Registry)?,
-            NAMESPACE => self.facade(target, Facade::Namespace)?,
-            _ => {
-                let number = specifier.strip_prefix(PUT);
-                match number.and_then(|number| number.parse::<usize>().ok()) {
-                    Some(module) => self.facade(module, Facade::Put)?,
-                    None => return Ok(None),
-                }
-            }
-        };
-        Ok(Some(unit))
-    }
-
-    // Tells that a text of the command's own is no module.
-    fn tell_internal(&mut self, text: &str) -> Result<Option<Read>, AllocError>
-        ensures { self.old.messages.errors ≤ self.new.messages.errors }
-    {
-        let alloc = self.alloc;
-        let why = format!(in alloc; "a fault of the command's own: no module comes of {text}")?;
-        self.messages.error(why, None, Vec::new(alloc))?;
-        Ok(None)
-    }
-
-    // Tells of what is left open in a module.
-    fn tell_outline(
-        &mut self,
-        asker: Asker<'_>,
-        placed: &Placed<'_>,
-        outline: &SourceOutline<'_>,
-    ) -> Result<(), AllocError>
-        ensures { self.old.messages.errors ≤ self.new.messages.errors }
-    {
-        for piece in &outline.unknown {
-            self.tell_call(asker, placed, *piece)?;
-        }
-        match outline.meta {
-            Some(piece) => self.tell_meta(asker, place_of(placed, piece)),
-            None => Ok(()),
-        }
-    }
-
-    // Tells of a call at a piece that stays.
-    fn tell_call(
-        &mut self,
-        asker: Asker<'_>,
-        placed: &Placed<'_>,
-        piece: usize,
-    ) -> Result<(), AllocError>
-        ensures { self.old.messages.errors ≤ self.new.messages.errors }
-    {
-        let word = call_word(placed, piece);
-        let why = format!(in self.alloc; "{word}() of what is no literal stays as it is")?;
-        self.warn(
-            asker.path,
-            asker.text,
-            place_of(placed, piece),
-            word.len(),
-            why,
-        )
-    }
-
-    // Tells of an `import.meta` that nothing is known of.
-    fn tell_meta(&mut self, asker: Asker<'_>, at: usize) -> Result<(), AllocError>
-        ensures { self.old.messages.errors ≤ self.new.messages.errors }
-    {
-        if !self.is_script() || self.settings.meta_url.is_some() {
-            return Ok(());
-        }
-        let why = format!(in self.alloc; "import.meta is empty in a script")?;
-        self.warn(asker.path, asker.text, at, 11, why)
+        let settings = self.settings;
+        let lead = self.lead(wish.asker.path, wish.request)?;
+        bonded(&mut self.teller, &mut self.table, settings, wish, lead)
     }
 }
 
-// Where a piece stands in the text.
-fn place_of(placed: &Placed<'_>, piece: usize) -> usize {
-    placed.places.get(piece).copied().unwrap_or(0) as usize
+impl UnitTable {
+    // The file of a module that is to be read, taken out, and how. It is done then.
+    fn begin_file(&mut self, at: usize) -> Option<(UnitFile, UnitForm)> {
+        let unit = self.units.get_mut(at)?;
+        if unit.is_done || unit.path().is_none() {
+            return None;
+        }
+        unit.is_done = true;
+        let known = KnownKind {
+            kind: unit.kind,
+            records: take_records(&mut unit.origin),
+        };
+        let form = UnitForm {
+            known,
+            is_node: unit.is_node,
+            is_main: unit.is_main,
+        };
+        let blank = UnitOrigin::Text(String::new(self.alloc));
+        let file = std::mem::replace(&mut unit.origin, blank).into_file()?;
+        Some((file, form))
+    }
+
+    // Puts back the file of a module, with what was read of it.
+    fn end_file(&mut self, at: usize, file: UnitFile, read: Option<Read>) {
+        if let Some(unit) = self.units.get_mut(at) {
+            unit.origin = UnitOrigin::File(file);
+            if let Some(Read { tree, links, table }) = read {
+                unit.tree = Some(tree);
+                unit.links = links;
+                unit.table = table;
+            }
+        }
+    }
+}
+
+// What was read of the text of a file.
+fn take_records(origin: &mut UnitOrigin) -> Option<SourceRecords> {
+    match origin {
+        UnitOrigin::File(file) => file.records.take(),
+        UnitOrigin::Facade { .. } | UnitOrigin::Text(_) => None,
+    }
+}
+
+// A module that is read from a file.
+fn asker_of<'f>(file: &'f UnitFile, form: &UnitForm) -> Asker<'f> {
+    Asker {
+        path: file.path.as_str(),
+        text: file.text.as_str(),
+        kind: form.known.kind,
+        is_node: form.is_node,
+        is_main: form.is_main,
+    }
+}
+
+// Tells what is wrong with the text of a module, of which nothing comes.
+fn leave_unread(
+    teller: &mut Teller<'_>,
+    asker: Asker<'_>,
+    error: ReadError,
+) -> Result<Option<Read>, AllocError>
+    ensures { teller.old.messages.errors ≤ teller.new.messages.errors }
+{
+    teller.tell_unread(asker.path, asker.text, error)?;
+    Ok(None)
+}
+
+// The comments of a module that stay.
+fn comments_of<'a>(
+    alloc: Global,
+    settings: &BundleSettings,
+    source: &'a SourceModule<'_>,
+    placed: &Placed<'_>,
+) -> Result<Vec<KeptComment<'a>>, AllocError> {
+    if !settings.keeps_comments {
+        return Ok(Vec::new(alloc));
+    }
+    match source.comments(alloc, placed) {
+        Ok(comments) => Ok(comments),
+        Err(_) => Err(AllocError),
+    }
+}
+
+// What a module of a file is, and what it keeps.
+#[derive(Clone, Copy)]
+struct SeatForm<'x, 's> {
+    asker: Asker<'x>,
+    is_data: bool,
+    settings: &'s BundleSettings,
+}
+
+impl<'s> SeatForm<'_, 's> {
+    fn seat<'n>(self, notes: &'n ExportMetadata) -> Seat<'n>
+    where
+        's: 'n,
+    {
+        Seat {
+            kind: self.asker.kind,
+            keeps_meta: self.settings.format != OutputFormat::Iife,
+            meta_url: self.settings.meta_url.as_ref().map(|url| url.as_str()),
+            is_main: self.asker.is_main,
+            is_data: self.is_data,
+            notes,
+        }
+    }
+}
+
+// What comes of the list of a file, where it is known what stands for its requests.
+fn read_bonded<'a>(
+    teller: &mut Teller<'_>,
+    form: SeatForm<'_, '_>,
+    placed: &Placed<'a>,
+    outline: &SourceOutline<'a>,
+    bonded: BondedRequests,
+    comments: &[KeptComment<'_>],
+) -> Result<Option<Read>, AllocError>
+    ensures { teller.old.messages.errors ≤ teller.new.messages.errors }
+{
+    let alloc = teller.alloc;
+    let notes = ExportMetadata::default();
+    let pieces = placed.pieces.as_slice();
+    let bonds = bonded.bonds.as_slice();
+    match tree_of(alloc, pieces, outline, bonds, comments, form.seat(&notes))? {
+        Some(tree) => {
+            let read = read_of(alloc, form.asker.kind, pieces, outline, tree, bonded)?;
+            Ok(Some(read))
+        }
+        None => {
+            teller.tell_internal(form.asker.path)?;
+            Ok(None)
+        }
+    }
+}
+
+// Tells of what is left open in a module.
+fn tell_outline(
+    teller: &mut Teller<'_>,
+    settings: &BundleSettings,
+    asker: Asker<'_>,
+    placed: &Placed<'_>,
+    outline: &SourceOutline<'_>,
+) -> Result<(), AllocError>
+    ensures { teller.new.messages.errors ≡ teller.old.messages.errors }
+{
+    for piece in &outline.unknown {
+        tell_call(teller, asker, placed, *piece)?;
+    }
+    match outline.meta {
+        Some(piece) => tell_meta(teller, settings, asker, place_of(placed, piece)),
+        None => Ok(()),
+    }
+}
+
+// Tells of a call at a piece that stays.
+fn tell_call(
+    teller: &mut Teller<'_>,
+    asker: Asker<'_>,
+    placed: &Placed<'_>,
+    piece: usize,
+) -> Result<(), AllocError>
+    ensures { teller.new.messages.errors ≡ teller.old.messages.errors }
+{
+    let word = call_word(placed, piece);
+    let why = format!(in teller.alloc; "{word}() of what is no literal stays as it is")?;
+    let place = TextPlace {
+        path: asker.path,
+        text: asker.text,
+        at: place_of(placed, piece),
+        length: word.len(),
+    };
+    teller.warn(place, why)
+}
+
+// Tells of an `import.meta` that nothing is known of.
+fn tell_meta(
+    teller: &mut Teller<'_>,
+    settings: &BundleSettings,
+    asker: Asker<'_>,
+    at: usize,
+) -> Result<(), AllocError>
+    ensures { teller.new.messages.errors ≡ teller.old.messages.errors }
+{
+    if settings.format != OutputFormat::Iife || settings.meta_url.is_some() {
+        return Ok(());
+    }
+    let why = format!(in teller.alloc; "import.meta is empty in a script")?;
+    let place = TextPlace {
+        path: asker.path,
+        text: asker.text,
+        at,
+        length: 11,
+    };
+    teller.warn(place, why)
 }
 
 // The word by which a call at a piece asks for a module.
@@ -476,21 +359,22 @@ fn call_word(placed: &Placed<'_>, call: usize) -> &'static str {
     }
 }
 
-// Puts down what was read of a module.
-fn put_read(unit: &mut BundleUnit, read: Read) {
-    let Read { tree, links, table } = read;
-    unit.tree = Some(tree);
-    unit.links = links;
-    unit.table = table;
-}
-
-fn push_bond(bonds: &mut Vec<Bond>, bond: Bond) -> Result<(), AllocError> {
+/// Puts down what stands for one more request.
+pub(crate) fn push_bond(bonds: &mut Vec<Bond>, bond: Bond) -> Result<(), AllocError> {
     bonds.push(bond)?;
     Ok(())
 }
 
 impl BondedRequests {
-    fn push(&mut self, bond: Bond, link: UnitLink) -> Result<(), AllocError> {
+    fn new(alloc: Global) -> BondedRequests {
+        BondedRequests {
+            bonds: Vec::new(alloc),
+            links: Vec::new(alloc),
+        }
+    }
+
+    fn push(&mut self, request: BondedRequest) -> Result<(), AllocError> {
+        let BondedRequest { bond, link } = request;
         push_bond(&mut self.bonds, bond)?;
         self.links.push(link)?;
         Ok(())
@@ -633,20 +517,8 @@ fn is_star(pieces: &[Piece<'_>], at: usize) -> bool {
     )
 }
 
-// What a module of the command's own is.
-fn own_seat(kind: SourceKind, notes: &ExportMetadata) -> Seat<'_> {
-    Seat {
-        kind,
-        keeps_meta: false,
-        meta_url: None,
-        is_main: false,
-        is_data: false,
-        notes,
-    }
-}
-
-// The tree of a module, with what stands for its requests; none where it is that of no module.
-fn tree_of<'p: 'b, 'c: 'b, 'n: 'b, 'b>(
+/// The tree of a module, with what stands for its requests; none where it is that of no module.
+pub(crate) fn tree_of<'p: 'b, 'c: 'b, 'n: 'b, 'b>(
     alloc: Global,
     pieces: &[Piece<'p>],
     outline: &SourceOutline<'_>,

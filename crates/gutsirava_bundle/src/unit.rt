@@ -5,36 +5,46 @@ ghost use Rattle.gutsirava_bundle.specs.Numbers.{key_text, IsKeyOf};
 
 use crate::facade::Facade;
 use bundle_tree_ast::Module;
-use gutsirava_sources::{RequestForm, SourceKind};
+use gutsirava_sources::{RequestForm, SourceKind, SourceRecords};
 use std::alloc::{AllocError, Global};
 use std::collections::BTreeSet;
 
+/// The file of a module.
+pub(crate) struct UnitFile {
+    pub(crate) path: String,
+    /// The text that was read: of JSON, that of the module that stands for it.
+    pub(crate) text: String,
+    pub(crate) is_data: bool,
+    /// What was read of the text where it told what the module is, until the module is read.
+    pub(crate) records: Option<SourceRecords>,
+}
+
+/// Lets go of it. Written by hand, as for the other parts of a module, so that who lets one go calls this function.
+impl Drop for UnitFile {
+    fn drop(self) {
+        let UnitFile {
+            path: _path,
+            text: _text,
+            is_data: _is_data,
+            records: _records,
+        } = self;
+    }
+}
+
 /// Where a module comes from.
 pub(crate) enum UnitOrigin {
-    File {
-        path: String,
-        /// The text that was read: of JSON, that of the module that stands for it.
-        text: String,
-        is_data: bool,
-    },
+    File(UnitFile),
     /// It stands between a module and those that ask for it.
-    Facade {
-        facade: Facade,
-        target: usize,
-    },
+    Facade { facade: Facade, target: usize },
     /// It stands for a specifier that is left, in a script: its text.
     Text(String),
 }
 
-/// Lets go of it. Written by hand, as for the other parts of a module, so that who lets one go calls this function.
+/// Lets go of it.
 impl Drop for UnitOrigin {
     fn drop(self) {
         match self {
-            UnitOrigin::File {
-                path: _path,
-                text: _text,
-                is_data: _is_data,
-            } => {}
+            UnitOrigin::File(_file) => {}
             UnitOrigin::Facade {
                 facade: _facade,
                 target: _target,
@@ -44,8 +54,22 @@ impl Drop for UnitOrigin {
     }
 }
 
+impl UnitOrigin {
+    /// The file, where it is one.
+    pub(crate) fn into_file(self) -> Option<UnitFile> {
+        match self {
+            UnitOrigin::File(file) => Some(file),
+            UnitOrigin::Facade {
+                facade: _facade,
+                target: _target,
+            } => None,
+            UnitOrigin::Text(_text) => None,
+        }
+    }
+}
+
 /// A module that another one asks for.
-#[derive(Drop)]
+#[derive(Clone, Copy)]
 pub(crate) struct UnitLink {
     pub(crate) asking: RequestForm,
     /// Where its specifier stands in the text of the file.
@@ -139,7 +163,7 @@ impl BundleUnit {
     /// The path of its file.
     pub(crate) fn path(&self) -> Option<&str> {
         match &self.origin {
-            UnitOrigin::File { path, .. } => Some(path.as_str()),
+            UnitOrigin::File(file) => Some(file.path.as_str()),
             UnitOrigin::Facade { .. } | UnitOrigin::Text(_) => None,
         }
     }
@@ -147,7 +171,7 @@ impl BundleUnit {
     /// The text of its file.
     pub(crate) fn text(&self) -> &str {
         match &self.origin {
-            UnitOrigin::File { text, .. } => text.as_str(),
+            UnitOrigin::File(file) => file.text.as_str(),
             UnitOrigin::Facade { .. } | UnitOrigin::Text(_) => "",
         }
     }

@@ -17,11 +17,13 @@ mod stand;
 mod text;
 mod writing;
 
-pub use bundle_js_read::{KeptComment, Placed, ReadError, ReadErrorKind, SourceModule};
+pub use bundle_js_read::{
+    KeptComment, Placed, ReadError, ReadErrorKind, SourceModule, SourceRecords,
+};
 pub use common_js::{CommonJsExports, common_js_exports};
 pub use exports::{Exported, TakenName, exports_of, taken_of};
 pub use json_text::{JsonError, json_module};
-pub use kind::{DeclaredKind, SourceKind, kind_of, read_as};
+pub use kind::{DeclaredKind, KnownKind, SourceKind, kind_of, read_as, read_known};
 pub use made::COMMENT;
 pub use outline::{RequestForm, SourceOutline, SourceRequest, outline_of};
 pub use parts::{RequestParts, parts_of};

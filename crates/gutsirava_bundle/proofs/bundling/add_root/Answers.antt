@@ -3,4 +3,4 @@ use Rattle.gutsirava_bundle.proofs.bundling.add_root.Goals as goal
 
 pub returns-clause-added : goal.returns-clause-added
 returns-clause-added g c = λ none.
-    (c.in-Some.root, c.in_ok-push.ensures.items, rw c.in-Some.is at c.in_ok-root.ensures.told)
+    (c.in_ok-root.root, c.in_ok-push_root.ensures.added none, c.in_ok-root.ensures)

@@ -11,12 +11,12 @@ use Rattle.gutsirava_bundle.proofs.Answering.{link_answer}
 use Rattle.gutsirava_bundle.proofs.bundling.link.Goals as goal
 
 pub returns-clause-answer : goal.returns-clause-answer
-returns-clause-answer g c = λ none.
+returns-clause-answer c = λ none.
     let settings = c.args.settings.now in
-    let external = map string_bytes c.args.graph.now.externals.keys in
-    let trees = trees_in c.args.graph.now.units.items in
+    let external = map string_bytes c.args.table.now.externals.keys in
+    let trees = trees_in c.args.table.now.units.items in
     let entries = c.in_ok-entries.entries.items in
-    let linked = subst (λ it. IsLinked gives_nothing fails_nowhere (link_settings settings external) trees (map entry_of entries) (answer_told it)) c.in-Ok.is c.in_ok-linked.ensures.linked in
+    let linked = subst (λ it. IsLinked gives_nothing fails_nowhere (link_settings settings external) trees (map entry_of entries) (answer_told it)) c.in-Ok.is c.in_ok-linked.ensures in
     link_answer settings external trees c.args.roots.now entries c.in-Ok.bundles.items c.in_ok-outputs.outputs.items c.in_ok-entries.ensures linked
-    (subst (λ it. length it ≡ length c.args.roots.now → AllZip (HasTextOf settings) it c.in_ok-outputs.outputs.items) c.as_slice.ensures.value c.in_ok-outputs.ensures.texts)
-    (subst (λ it. length it ≡ length c.args.roots.now → AllZip HasNameOf c.args.roots.now c.in_ok-outputs.outputs.items) c.as_slice.ensures.value c.in_ok-outputs.ensures.names)
+    (subst (λ it. length it ≡ length c.args.roots.now → AllZip (HasTextOf settings) it c.in_ok-outputs.outputs.items) c.as_slice-2.ensures.value c.in_ok-outputs.ensures.texts)
+    (subst (λ it. length it ≡ length c.args.roots.now → AllZip HasNameOf c.args.roots.now c.in_ok-outputs.outputs.items) c.as_slice-2.ensures.value c.in_ok-outputs.ensures.names)

@@ -6,4 +6,4 @@ use Rattle.gutsirava_bundle.proofs.bundling.roots_of.Given as goal
 
 abbrev pub invariant-loop-entry : goal.invariant-loop-entry
 invariant-loop-entry g l =
-    l.graph.messages.errors ≡ 0 → AreSoFar IsRootOf l.fn.entries.items l.entry-iterator.rest.items l.roots.items
+    l.graph.teller.messages.errors ≡ 0 → AreSoFar IsRootOf l.fn.entries.items l.entry-iterator.rest.items l.roots.items
