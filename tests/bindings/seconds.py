@@ -4,7 +4,8 @@ system time, where the first one has paid for the memory that the process has fr
 
 PROGRAM is bundle_json, and CALLS the example of that name, which makes so many calls of a document. Of the program's time
 that of an input that cannot be read is taken off: its start. Both run by turns, and the slower half of the runs, which other
-work on the machine disturbed, does not count. The status is 1 where a call costs more, three times in a row.
+work on the machine disturbed, does not count. The status is 1 where a call costs more by over a tenth, three times in a row: that much other
+work may add to one of two.
 """
 import os
 import sys
@@ -12,6 +13,7 @@ import sys
 ROUNDS = 40
 CALLS = 5
 TRIES = 3
+MARGIN = 1.1
 STARTS = "/"
 
 
@@ -44,11 +46,11 @@ def measured(program, calls, document):
 
 
 def costs_no_more(program, calls, document):
-    """Whether a later call costs no more than the program."""
+    """Whether a later call costs no more than the program, within the margin."""
     for _ in range(TRIES):
         call, run = measured(program, calls, document)
         print(f"{os.path.basename(document)}: a later call {call:.2f} ms, the program {run:.2f}")
-        if call <= run:
+        if call <= MARGIN * run:
             return True
     return False
 
