@@ -17,6 +17,10 @@ const stars = {
   'b.js': 'export * from "./c";',
   'c.js': 'export const x = 1;',
 };
+const cycle = {
+  'main.js': 'import { f } from "./a"; f(); export const k = 1;',
+  'a.js': 'import { k } from "./main"; export function f() { () => k; }',
+};
 
 // What is asked; and what is to be written: a text, or a tree with what stands before and behind it.
 const rows = [
@@ -52,6 +56,27 @@ const rows = [
       'a.js': 'export const x = 1;',
     })}`,
     ['', 'const x = 1; function f(x1) { return x1 + x; } f(1);', ''],
+  ],
+  [
+    `bundle needs ${files({
+      'main.js': 'import { u } from "./a"; use(u, import.meta.url);',
+      'a.js': 'export const u = import.meta.url;',
+    })}`,
+    [
+      'out 0\t',
+      `const importMeta = { url: "a.js", entry: false }; const u = importMeta.url;
+       const importMeta1 = { url: "main.js", entry: true }; use(u, importMeta1.url);`,
+      '',
+    ],
+  ],
+  [`bundle iife ${files({ 'main.js': 'f();' })}`, ['out 0\t', '(function () { f(); return {}; })();', '']],
+  [
+    `bundle needs ${files(cycle)}`,
+    ['out 0\t', 'const k = 1; function f() { () => k; } f(); export { k as k };', ''],
+  ],
+  [
+    `bundle standard ${files(cycle)}`,
+    ['out 0\t', 'function f() { () => k; } f(); const k = 1; export { k as k };', ''],
   ],
   [`inline ${form('use(b, { b });')}`, ['', 'use(a, { b: a });', '']],
   [
