@@ -121,6 +121,29 @@ const numbered = { name: 'contexts of a graph', config: { disable_hygiene: true 
   // const f = (p) => { return p + x; }; use(g, f, mod, importMeta.url); export { f as h };
   names: '+x#4 +g#4 +p.1 +q.1 p.1 q.1 +mod.1 g#4 x#4 +importMeta.1 +f#2 +p.2 p.2 x#4 use#1 g#4 f#2 mod.1 importMeta.1 f#2' };
 
+// Each statement says of which file it is and which of its own; `of_f` is exported by f, `g_takes_f` taken by g of the CommonJS module f.
+const ofA = `export const of_a = 'a 0';`, ofB = `export const of_b = 'b 0';`;
+const scripts = { c: `exports.of_c = 'c 0';`, e: `require('./c'); exports.of_e = 'e 0';`, d: `import * as d_takes_c from './c'; import { of_e as d_takes_e } from './e'; use('d 0', d_takes_c, d_takes_e);` };
+const ring = { main: `import { of_b } from './b'; export const of_main = 'main 0'; use('main 1', of_b);`, b: `import * as n from './main'; ${ofB} export function f() { return ['b 1', n]; }` };
+const causes = [
+  { name: 'a diamond with all kinds of declarations', files: { c: `'c 0'; export class of_c { m() { return 'c 1'; } }`, a: `import './c'; ${ofA} ; function f() { return 'a 1'; } export { f };`,
+    b: `export * from './c'; export default 'b 0'; export let of_b = 'b 1'; if ('b 2') use('b 2');`,
+    main: `import { of_a } from './a'; import d, { of_b, of_c } from './b'; use('main 0', of_a, of_b, d, of_c); export default function () { return 'main 1'; } export { of_a as x }; export var y = 'main 2';` } },
+  { name: 'objects of namespaces', files: { main: `import * as n from './a'; import * as m from './b'; use('main 0', n, m);`, a: ofA, b: `${ofB} export * as n from './a';` } },
+  { name: 'CommonJS modules, and who loads them', config: { require: true }, files: { ...scripts, main: `import { of_c as main_takes_c } from './c'; import './d'; use('main 0', main_takes_c);` } },
+  { name: 'import.meta of two modules of three', meta: { a: `of: 'meta a'`, main: `of: 'meta main'` }, files: { a: `import './b'; use('a 0', import.meta.url); use('a 1');`, b: ofB, main: `import './a'; use('main 0', import.meta);` } },
+  { name: 'externals in each form, and stars of them', config: { external_modules: ['ext', 'side', 'star', 'all'] }, files: { a: `import * as w from 'all'; export * from 'star'; use('a 0', w);`,
+    main: `import { a as b } from 'ext'; import 'side'; export * from './a'; import * as n from 'ext'; export const of_main = 'main 0'; use('main 1', b, n);` } },
+  { name: 'one function\'s call', config: { module: 'Iife' }, files: { a: ofA, main: `import { of_a } from './a'; export const of_main = 'main 0'; use('main 1', of_a);` } },
+  { name: 'one function\'s call that exports nothing', config: { module: 'Iife' }, files: { main: `use('main 0');` } },
+  { name: 'a cycle in the standard\'s order', config: { order: 'Standard' }, files: ring },
+  { name: 'all at once in the standard\'s order, as one function\'s call', config: { order: 'Standard', module: 'Iife', require: true }, meta: { main: `of: 'meta main'` },
+    files: { ...ring, ...scripts, main: `import './d'; ${ring.main} import { of_c as main_takes_c } from './c'; use('main 2', main_takes_c, import.meta);` } },
+  { name: 'a cycle by needs', files: ring, none: true },
+  { name: 'two entries that share a module, with contexts', config: { disable_hygiene: true }, entries: [['p', 'a'], ['q', 'b']], files: { a: `import { of_c } from './c'; ${ofA} use('a 1', of_c);`, b: `import * as n from './c'; ${ofB} use('b 1', n);`, c: `export const of_c = 'c 0';` } },
+  { name: 'an entry with no statement', files: { main: `import './a'; export {};`, a: `` } },
+];
+
 // Words of the command, over files in memory. `ends` is what Node and a reader of the bundle expect, made by hand.
 const at = (files) => Object.entries(files).map(([path, text]) => [`/work/${path}`, text]);
 const command = ({ texts = {}, typed = '', status = 0, printed = '', stored = {}, told = '', ...row }) =>
@@ -146,7 +169,7 @@ export const rows = [
   ...[stars, commonjs, hook, inOrder, twoHooks, whole].map(of('failing')),
   ...[clash, stars, commonjs, iife, hook, cycle, whole, twoEntries, ...refusals].map(of('growths')),
   ...Object.entries(unchanged.gives).map(([call, gives]) => of('unchanged')({ ...unchanged, name: call, call, gives })), of('quiet')({ name: 'calls that take no memory', modules: linked }), of('public')({ name: 'calls on names and kinds' }),
-  of('numbered')(numbered),
+  of('numbered')(numbered), ...causes.map(of('causes')),
   of('streams')({ ...clash, name: 'streams that fail' }), of('program')({ ...twoHooks, name: 'memory for the program' }),
   ...commands.map(of('commands')),
 ];

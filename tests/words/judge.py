@@ -53,11 +53,11 @@ def all_rows():
 
 
 def is_one_screen(text):
-    """Help has 80 columns, 45 lines, and each option that words.txt uses."""
+    """Help has 80 columns, 52 lines, and each option that words.txt uses."""
     lines = text.split("\n")
     names = {it.split("=")[0] for _, words, answer in rows_by_hand() if answer.startswith("bundle")
              for it in words if it.startswith("--") and "--" not in words and ":" not in it}
-    return (len(lines) <= 45 and all(len(line) <= 80 for line in lines)
+    return (len(lines) <= 53 and all(len(line) <= 80 for line in lines)
             and all(name in text for name in names) and text.isascii() and text.endswith("\n"))
 
 

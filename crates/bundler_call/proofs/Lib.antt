@@ -5,3 +5,4 @@ pub mod Unasked
 pub mod Leading
 pub mod Sources
 pub mod Programs
+pub mod Explained

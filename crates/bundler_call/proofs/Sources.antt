@@ -129,7 +129,7 @@ module _ (may_give : Name → Bool → List (KeyValueProp Expr) → Type 0) (may
 
 module _ (kept : Kept) (settings : Settings) (parties : Parties) where
   -- a file has one number, and so an entry one program
-  one_program : (entry : Entry) (p q : Program) → IsProgramOf kept settings entry p → IsProgramOf kept settings entry q → p ≡ q
+  pub one_program : (entry : Entry) (p q : Program) → IsProgramOf kept settings entry p → IsProgramOf kept settings entry q → p ≡ q
   one_program entry p q a b = a.is ∙ ap (program_of kept settings) (same_Some a.number b.number (sym a.its_number ∙ b.its_number)) ∙ sym b.is
 
   -- the first entry is refused
@@ -284,10 +284,16 @@ module _ (parties : Parties) (config : OrderedConfig) (kept : Kept) (list : Load
       × ((fault : Fault) → RefusesEntries kept (settings_of config) parties (map entry_of rest) fault → RefusesEntries kept (settings_of config) parties (map entry_of entries) fault)
       × ((fault : Fault) → LacksEntryContexts kept (settings_of config) parties (map entry_of rest) fault → LacksEntryContexts kept (settings_of config) parties (map entry_of entries) fault)
 
+  -- where no entry or no number is left, no entry is
+  pub made_over : (entries rest : List (String Global × FileName)) (ids : List ℕ) (bundles : List Bundle) → (rest ≡ []) ⊎ (ids ≡ []) → AreMadeSoFar entries rest ids bundles → rest ≡ []
+  made_over entries rest ids bundles (inl is) so_far = is
+  made_over entries rest ids bundles (inr is) so_far =
+      no_entry rest (subst (λ xs. AllZip (IsNumberedOn kept list) rest xs) is so_far.0)
+
   -- where nothing is left, they are all
   pub made_all : (entries rest : List (String Global × FileName)) (ids : List ℕ) (bundles : List Bundle) → (rest ≡ []) ⊎ (ids ≡ []) → AreMadeSoFar entries rest ids bundles → AllZip (IsMergedBundle parties config kept) entries bundles
   made_all entries rest ids bundles over so_far =
-      let none : rest ≡ [] = elim over [ inl is ↦ is | inr is ↦ no_entry rest (subst (λ xs. AllZip (IsNumberedOn kept list) rest xs) is so_far.0) ] in
+      let none = made_over entries rest ids bundles over so_far in
       subst (λ xs. AllZip (IsMergedBundle parties config kept) entries xs) (append-nil bundles) (so_far.1 [] (subst (λ xs. AllZip (IsMergedBundle parties config kept) xs []) (sym none) tt))
 
   module _ (entries rest left : List (String Global × FileName)) (ids numbers : List ℕ) (bundles : List Bundle) (entry : String Global × FileName) (id : ℕ) (is_rest : rest ≡ entry ∷ left) (is_ids : ids ≡ id ∷ numbers) (so_far : AreMadeSoFar entries rest ids bundles) where

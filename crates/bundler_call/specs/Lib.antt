@@ -5,6 +5,7 @@ pub mod Marks
 pub mod Placed
 pub mod Kept
 pub mod Answer
+pub mod Caused
 pub mod Library
 pub mod Bundler
 pub mod Loading

@@ -9,6 +9,7 @@ ghost use Rattle.bundle_rules.specs.Headline.{AnswersNothing, IsHeadline};
 ghost use Rattle.bundle_rules.specs.Judging.{Completes, NumbersEach};
 ghost use Rattle.bundle_rules.specs.Kept.{nothing_kept, Kept};
 ghost use Rattle.bundler_call.specs.Answer.{answer_told};
+ghost use Rattle.bundler_call.specs.Caused.{answer_beside, AreExplained};
 ghost use Rattle.bundler_call.specs.Bundler.{config_of, entry_files, hook_of, kept_by, loader_of, parties_held, resolver_of, settings_held, HasFileNumber};
 ghost use Rattle.bundler_call.specs.Judged.{EndsJudging, AreEntriesApart, IsFaultOfList, IsFinishedBundle, IsMergedBundle, IsRefusalTold, parties_asked};
 ghost use Rattle.bundler_call.specs.Kept.{entry_of, kept_of, settings_of, IsBounded};
@@ -20,12 +21,14 @@ ghost use Rattle.bundler_call.specs.declared.load.LoadList.{LoadList};
 
 use crate::Kept as Keeping;
 use crate::bundle::{Bundle, BundleKind};
+use crate::caused::caused_bundles;
 use crate::kept::note_file;
 use crate::library::{Asking, Library};
 use crate::linked::module_on;
 use crate::load::{LoadList, load_all};
 use crate::marked::Marked;
 use crate::program::program_on;
+use bundle_merge_causes::BundleCauses;
 use bundle_scope_denote::texts::TextSet;
 use bundle_tree::hook::Hook;
 use bundle_tree::load::{Load, ModuleData};
@@ -180,6 +183,86 @@ impl<L: Load + Drop, R: Resolve + Drop> Bundler<L, R> {
         let merged = merged_bundles(alloc, &kept, &list, &config, &*hook, entries, ids)?;
         drop(kept);
         Ok(finished_bundles(alloc, merged, &config)?)
+    }
+
+    /// What `bundle` gives, and beside each bundle what each of its items is made for, which costs no second merge.
+    pub fn bundle_with_causes(
+        &mut self,
+        alloc: Global,
+        entries: Vec<(String, FileName)>,
+    ) -> Result<(Vec<Bundle>, Vec<BundleCauses>), Error>
+        ensures headline { IsHeadline
+            (parties_held L.Load R.Resolve ⟦<dyn Hook as Hook>⟧ self.old)
+            (settings_held self.old) (map entry_of entries.items)
+            (kept_by self.old) (answer_beside result) (kept_by self.new) }
+        ensures calls { (first : Kept) (calls : List AnsweredCall) →
+            AreAnswered (parties_held L.Load R.Resolve ⟦<dyn Hook as Hook>⟧ self.old)
+            (settings_held self.old) first calls (kept_by self.old) →
+            IsHeadlineOfCalls (parties_held L.Load R.Resolve ⟦<dyn Hook as Hook>⟧ self.old)
+            (settings_held self.old) first
+            (and_call calls (map entry_of entries.items) (answer_beside result))
+            (kept_by self.new) }
+        ensures causes { IfOk result (λ made. AreExplained
+            (parties_held L.Load R.Resolve ⟦<dyn Hook as Hook>⟧ self.old)
+            (settings_held self.old) (kept_by self.new) (map entry_of entries.items)
+            made.0.items made.1.items) }
+        ensures loader { loader_of self.new ≡ loader_of self.old }
+        ensures resolver { resolver_of self.new ≡ resolver_of self.old }
+        ensures config { config_of self.new ≡ config_of self.old }
+        ensures hook { hook_of self.new ≡ hook_of self.old }
+        ensures no_entry { entries.items ≡ [] →
+            AnswersNothing (kept_by self.old) (answer_beside result) (kept_by self.new)
+            × (self.new ≡ self.old) }
+    {
+        if entries.is_empty() {
+            return Ok((Vec::new(alloc), Vec::new(alloc)));
+        }
+        let config = &self.config;
+        let asking = Asking::Lent;
+        let (list, ids) = loaded(&mut self.library, alloc, entries.as_slice(), config, asking)?;
+        let (kept, hook) = (&self.library.kept, &*self.hook);
+        let (merged, causes) = caused_bundles(alloc, kept, &list, config, hook, entries, ids)?;
+        let bundles = finished_bundles(alloc, merged, config)?;
+        Ok((bundles, causes))
+    }
+
+    /// What `into_bundles` gives, and beside each bundle what each of its items is made for, which costs no second merge.
+    pub fn into_bundles_with_causes(
+        self,
+        alloc: Global,
+        entries: Vec<(String, FileName)>,
+    ) -> Result<(Vec<Bundle>, Vec<BundleCauses>), Error>
+        ensures headline { (kept : Kept) × IsHeadline
+            (parties_held L.Load R.Resolve ⟦<dyn Hook as Hook>⟧ self)
+            (settings_held self) (map entry_of entries.items)
+            (kept_by self) (answer_beside result) kept
+            × IfOk result (λ made. AreExplained
+            (parties_held L.Load R.Resolve ⟦<dyn Hook as Hook>⟧ self)
+            (settings_held self) kept (map entry_of entries.items) made.0.items made.1.items) }
+        ensures no_entry { entries.items ≡ [] →
+            AnswersNothing (kept_by self) (answer_beside result) (kept_by self) }
+    {
+        if entries.is_empty() {
+            return Ok((Vec::new(alloc), Vec::new(alloc)));
+        }
+        let Bundler {
+            library,
+            config,
+            hook,
+        } = self;
+        let mut library = library;
+        let (list, ids) = loaded(
+            &mut library,
+            alloc,
+            entries.as_slice(),
+            &config,
+            Asking::Owned,
+        )?;
+        let kept = library.into_kept();
+        let (merged, causes) = caused_bundles(alloc, &kept, &list, &config, &*hook, entries, ids)?;
+        drop(kept);
+        let bundles = finished_bundles(alloc, merged, &config)?;
+        Ok((bundles, causes))
     }
 }
 

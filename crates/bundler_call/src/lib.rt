@@ -5,6 +5,7 @@
 
 pub mod bundle;
 pub mod bundler;
+mod caused;
 pub mod kept;
 mod library;
 mod linked;
@@ -16,6 +17,7 @@ mod program;
 mod texts;
 
 pub use bundle::{Bundle, BundleKind};
+pub use bundle_merge_causes::{BundleCauses, ItemCause, is_stated};
 pub use bundler::Bundler;
 pub use bundler_entry::OrderedConfig;
 pub use kept::{Kept, Request};

@@ -6,3 +6,4 @@ pub mod PartsLemmas
 mod MergedLemmas
 pub mod SourceLemmas
 pub mod InnerLemmas
+mod CausedLemmas

@@ -117,7 +117,7 @@ module _ (p : Program) (entry : ℕ) (call : EntryCall) (w : IsCallOf p entry ca
       (at-place p entry call w linked l k reached)).2.fit
 
   -- the file of a module by its place
-  place-file : (k m : ℕ) → slice_get ids k ≡ Some m → (file : FileName × ℕ) →
+  pub place-file : (k m : ℕ) → slice_get ids k ≡ Some m → (file : FileName × ℕ) →
       IsFileAt call linked.reached k file → file_of p m ≡ Some (name_of file.0)
   place-file k m at file its =
       let found =

@@ -1,6 +1,7 @@
 pub mod Unlinked
 pub mod Source
 pub mod Linked
+pub mod Caused
 pub mod Hook
 pub mod Asked
 pub mod Finished

@@ -3,6 +3,7 @@
 #![tactic(auto)]
 
 mod call;
+mod causes;
 mod entry;
 mod fault;
 mod finish;
@@ -13,6 +14,7 @@ mod source;
 mod unlinked;
 
 pub use call::{EntryCall, OrderedConfig};
+pub use causes::causes_in;
 pub use entry::{MetaAnswer, ask_all, module_of};
 pub use finish::finished;
 pub use linked::{LinkedEntry, linked_entry};

@@ -1,10 +1,15 @@
 //! JavaScript modules on disk to one, without any other program: the command over the files and streams of the machine.
 #![tactic(auto)]
 
-use anyhow::Result;
+mod watched;
+
+use crate::watched::MachineWork;
+use anyhow::{Error, Result};
 use gutsirava_files::MachineFiles;
+use gutsirava_resolve::FileSystem;
 use gutsirava_run::{Host, Surroundings, run};
-use gutsirava_words::{Command, WordsError};
+use gutsirava_watch::watch;
+use gutsirava_words::{Command, Switch, WordsError};
 use std::io::IsTerminal;
 use std::process::ExitCode;
 use std::{env, io};
@@ -35,20 +40,38 @@ fn words_of(rt: &HostRuntime) -> Result<Vec<String>> {
     Ok(words)
 }
 
-/// Does what is asked for, on the machine.
+/// Does what is asked for, on the machine; again and again, where that is asked for.
 fn run_on(rt: &HostRuntime, asked: &Result<Command, WordsError>) -> Result<u8> {
+    if let Ok(Command::Bundle(options)) = asked
+        && options.views.watch == Switch::On
+    {
+        watch(&mut MachineWork::new(rt, asked, options.log_level))?;
+        return Ok(0);
+    }
+    let (ended, _files) = run_over(rt, asked, MachineFiles::new(rt));
+    ended
+}
+
+/// Does what is asked for over these files, and gives them back.
+pub(crate) fn run_over<F: FileSystem + Drop>(
+    rt: &HostRuntime,
+    asked: &Result<Command, WordsError>,
+    files: F,
+) -> (Result<u8>, F) {
     let surroundings = Surroundings {
         folder: env::current_dir(rt).map(|folder| folder.into_string()),
         no_color: env::var(rt, "NO_COLOR").ok(),
         has_terminal: rt.stderr().is_terminal(),
     };
     let mut host = Host {
-        files: MachineFiles::new(rt),
+        files,
         store: MachineFiles::new(rt),
         input: rt.stdin(),
         output: io::writer(rt),
         errors: rt.stderr(),
         clock: rt,
     };
-    Ok(run(rt.alloc(), asked, surroundings, &mut host)?)
+    let ended = run(rt.alloc(), asked, surroundings, &mut host);
+    let Host { files, .. } = host;
+    (ended.map_err(Error::from), files)
 }

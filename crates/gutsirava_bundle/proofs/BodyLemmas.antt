@@ -1,11 +1,10 @@
 -- Texts put behind each other, as the body of a bundle.
-use Rattle.std.proofs.Common.{◌≡◌, ◌⊎◌, ◌++◌, ◌∙◌, ◌≤◌, ℕ, Bool, true, false, List, [], OnOk, Option, Result, Some, None, IsTrue, ◌==◌, append_assoc, codes, length, map, string_bytes, string_len, vec_len, refl, subst, sym, take, drop, ap}
+use Rattle.std.proofs.Common.{◌≡◌, ◌⊎◌, ◌++◌, ◌∙◌, ◌≤◌, ℕ, Bool, true, false, List, [], Option, Some, None, IsTrue, ◌==◌, append_assoc, codes, length, map, string_bytes, string_len, vec_len, refl, subst, sym, take, drop, ap}
 use Rattle.std.specs.List.{All, list_any}
 use Rattle.std.specs.Str.{IsTrimEnd}
 use Rattle.std.specs.declared.alloc.Global.{Global}
 use Rattle.std.specs.declared.string.String.{String}
 use Rattle.std.proofs.lemmas.List.{take-append-drop, length-map}
-use Rattle.std.proofs.lemmas.Result.{on_ok_weaker}
 use Rattle.bundle_js_print.specs.declared.print.Printed.{Printed}
 use Rattle.bundle_syntax.specs.Item.{Item, item_of}
 use Rattle.bundle_syntax.specs.declared.piece.Piece.{Piece}
@@ -93,20 +92,19 @@ script_of_print name is_common_js items old new text is print whole = record {
   };
 }
 
-pub script_of_call : {E : Type 0} (r : Result (Unit {0}) E) (name : Option (String Global)) (it : String Global) (word : List ℕ) (is_common_js : Bool) (items : List Item)
-    (old new text : List ℕ) → name ≡ Some it → word ≡ string_bytes it → IsPrint items text → OnOk r (Appends old new (IsCall word is_common_js text))
-    → OnOk r (Appends old new (IsScriptBody name is_common_js items))
-script_of_call r name it word is_common_js items old new text is spelled print =
-    on_ok_weaker r (λ (call : Appends old new (IsCall word is_common_js text)). record {
-      more = call.more;
-      whole = call.whole;
-      holds = record {
-        text = text;
-        print = print;
-        named = subst (λ (o : Option (String Global)). IsNamed o is_common_js text call.more) (sym is)
-            (subst (λ (letters : List ℕ). IsCall letters is_common_js text call.more) spelled call.holds);
-      };
-    })
+pub script_of_call : (name : Option (String Global)) (it : String Global) (word : List ℕ) (is_common_js : Bool) (items : List Item)
+    (old new text : List ℕ) → name ≡ Some it → word ≡ string_bytes it → IsPrint items text → Appends old new (IsCall word is_common_js text)
+    → Appends old new (IsScriptBody name is_common_js items)
+script_of_call name it word is_common_js items old new text is spelled print call = record {
+  more = call.more;
+  whole = call.whole;
+  holds = record {
+    text = text;
+    print = print;
+    named = subst (λ (o : Option (String Global)). IsNamed o is_common_js text call.more) (sym is)
+        (subst (λ (letters : List ℕ). IsCall letters is_common_js text call.more) spelled call.holds);
+  };
+}
 
 -- behind a first line
 pub framed_of : (settings : BundleSettings) (tree : Tree) (hashbang : Option (List ℕ)) (is_common_js : Bool) (listed shown left : List Piece) (begun text : List ℕ)

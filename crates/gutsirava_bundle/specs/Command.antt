@@ -1,25 +1,27 @@
 -- What the command gives for entries.
-use Rattle.std.specs.Prelude.{◌≡◌, ℕ, Bool, true, false, List, Option, map}
+use Rattle.std.specs.Prelude.{◌≡◌, ℕ, Bool, true, false, List, Option, Result, Ok, Err, map}
 use Rattle.std.specs.List.{AllZip}
 use Rattle.std.specs.String.{string_bytes}
 use Rattle.bundle_tree_ast.specs.declared.expr.Expr.{Expr}
 use Rattle.bundle_tree_ast.specs.declared.module.Module.{Module}
 use Rattle.bundle_tree_ast.specs.declared.prop.KeyValueProp.{KeyValueProp}
 use Rattle.bundle_tree_names.specs.FileName.{Name}
+use Rattle.bundle_tree_names.specs.declared.error.Error.{Error}
 use Rattle.bundle_tree_names.specs.declared.config.ModuleType.{ModuleType}
 use Rattle.bundle_tree_names.specs.declared.config.ModuleType.TheVariants.{Es, Iife}
 use Rattle.bundle_rules.specs.Entries.{Settings}
-use Rattle.bundle_rules.specs.Faults.{Parties}
+use Rattle.bundle_rules.specs.Faults.{Parties, fault_of}
 use Rattle.bundle_rules.specs.Headline.{Answer, Bundles, IsHeadline}
 use Rattle.bundle_rules.specs.Judging.{Entry}
 use Rattle.bundle_rules.specs.Kept.{Kept, nothing_kept}
-use Rattle.bundler_call.specs.Answer.{bundled_of}
+use Rattle.bundler_call.specs.Answer.{bundled_of, refusal_of}
 use Rattle.bundler_call.specs.Kept.{parties_of}
 use Rattle.bundler_call.specs.declared.bundle.Bundle.{Bundle}
 use Rattle.gutsirava_bundle.specs.BundleText.{IsBundleText}
 use Rattle.gutsirava_bundle.specs.Numbers.{unit_name}
 use Rattle.gutsirava_bundle.specs.Parties.{HandsOver, LeadsTo, gives_nothing, fails_nowhere, may_fail_to_load, may_fail_to_resolve}
 use Rattle.gutsirava_bundle.specs.declared.bundling.BundleText.{BundleText}
+use Rattle.gutsirava_bundle.specs.declared.bundling.LinkedBundles.{LinkedBundles}
 use Rattle.gutsirava_bundle.specs.declared.settings.BundleEntry.{BundleEntry}
 use Rattle.gutsirava_bundle.specs.declared.settings.BundleSettings.{BundleSettings}
 use Rattle.gutsirava_bundle.specs.declared.settings.OutputFormat.{OutputFormat}
@@ -59,6 +61,11 @@ parties_beside may_give may_fail_hook trees = parties_of
     may_fail_to_resolve
     may_give
     may_fail_hook
+
+-- bundles, or what the refusal tells
+abbrev pub linked_told : Result LinkedBundles Error → Answer
+linked_told (Ok linked) = Bundles (map bundled_of linked.bundles.items)
+linked_told (Err refusal) = refusal_of (fault_of refusal)
 
 -- what the linker answers for modules with these trees, of which these texts are left, and for
 -- these entries, as the headline has it of a linker that kept nothing

@@ -2,21 +2,22 @@
 
 ghost use Rattle.std.specs.Prelude.{◌≡◌, ◌<◌, ◌≤◌, ◌++◌, ◌∷◌, [], false, map, length, string_bytes, IfOk, MatchOption, OnOk};
 ghost use Rattle.std.specs.List.{AllZip};
-ghost use Rattle.bundler_call.specs.Answer.{answer_told};
 ghost use Rattle.bundler_call.specs.Kept.{entry_of, settings_of};
 ghost use Rattle.gutsirava_bundle.specs.declared.bundling.Root.{Root};
-ghost use Rattle.gutsirava_bundle.specs.Command.{link_settings, module_type, HasTextOf, IsCommandAnswer, IsLinked};
+ghost use Rattle.gutsirava_bundle.specs.Command.{link_settings, linked_told, module_type, HasTextOf, IsCommandAnswer, IsLinked};
 ghost use Rattle.gutsirava_bundle.specs.Linking.{trees_in, BeginsAt, HasNameOf, IsLinkAnswer, IsRootOf};
 ghost use Rattle.gutsirava_bundle.specs.Parties.{gives_nothing, fails_nowhere};
 
 use crate::facade::Facade;
 use crate::graph::{FoundUnit, Graph};
+use crate::insight::{BundleBegin, BundleInsight, BundledModule, insight_of, modules_of};
+use crate::mapped::map_of;
 use crate::message::Messages;
-use crate::output::{BundleFrame, text_of};
+use crate::output::{BundleBody, BundleFrame, text_of};
 use crate::own::read_own;
 use crate::parties::{KeyResolver, NoMeta, UnitLoader, file_of};
 use crate::progress::ProgressListener;
-use crate::settings::{BundleEntry, BundleSettings, OutputFormat};
+use crate::settings::{BundleEntry, BundleSettings, MapSetting, OutputFormat};
 use crate::teller::Teller;
 use crate::unit::BundleUnit;
 use crate::unit_table::UnitTable;
@@ -25,7 +26,7 @@ use bundle_tree_ast::Module;
 use bundle_tree_names::config::{Config, ModuleType};
 use bundle_tree_names::error::Error;
 use bundle_tree_names::file_name::FileName;
-use bundler_call::{Bundle, Bundler, OrderedConfig};
+use bundler_call::{Bundle, BundleCauses, Bundler, OrderedConfig};
 use gutsirava_resolve::{FileSystem, Resolver};
 use gutsirava_sources::{SourceKind, hashbang_of};
 use std::alloc::{AllocError, Global};
@@ -37,6 +38,10 @@ pub struct BundleText {
     /// What its entry calls it.
     pub name: String,
     pub text: String,
+    /// Its source map, where that is asked for.
+    pub map: Option<String>,
+    /// What it is made of, where that is asked for.
+    pub insight: Option<BundleInsight>,
 }
 
 /// What comes of entries.
@@ -46,7 +51,17 @@ pub struct Bundled {
     pub outputs: Vec<BundleText>,
     /// The paths of the files that were read.
     pub inputs: Vec<String>,
+    /// The same files, with what they ask for, where that is asked for.
+    pub modules: Vec<BundledModule>,
     pub messages: Messages,
+}
+
+/// What the linker gives.
+#[derive(Drop)]
+struct LinkedBundles {
+    bundles: Vec<Bundle>,
+    /// What the items of each bundle are made for, where that is asked for.
+    causes: Vec<BundleCauses>,
 }
 
 /// An entry that was found.
@@ -97,7 +112,7 @@ fn bundled_of<P: ProgressListener>(
     let mut teller = teller;
     let mut table = table;
     let outputs = outputs_of(&mut teller, &mut table, settings, roots, progress)?;
-    let bundled = finish(teller, table.units.as_slice(), outputs)?;
+    let bundled = finish(teller, settings, table.units.as_slice(), outputs)?;
     Ok(bundled)
 }
 
@@ -214,6 +229,7 @@ fn mark_main(table: &mut UnitTable, roots: &[Root]) {
 // What is told of all that was done; where that is an error, no text.
 fn finish(
     teller: Teller<'_>,
+    settings: &BundleSettings,
     units: &[BundleUnit],
     outputs: Vec<BundleText>,
 ) -> Result<Bundled, AllocError>
@@ -223,11 +239,17 @@ fn finish(
 {
     let alloc = teller.alloc;
     let inputs = paths_of(alloc, units)?;
+    let modules = if settings.has_insight {
+        modules_of(alloc, units)?
+    } else {
+        Vec::new(alloc)
+    };
     let messages = teller.into_messages();
     let outputs = unless_faults(alloc, messages.errors, outputs);
     Ok(Bundled {
         outputs,
         inputs,
+        modules,
         messages,
     })
 }
@@ -375,14 +397,21 @@ fn link(
     let alloc = teller.alloc;
     let entries = link_entries(alloc, roots)?;
     let linked = bundles(table, settings, entries)?;
-    let bundles = match linked {
-        Ok(bundles) => bundles,
+    let LinkedBundles { bundles, causes } = match linked {
+        Ok(made) => made,
         Err(error) => {
             teller.tell_refusal(table.units.as_slice(), &error)?;
             return Ok(Vec::new(alloc));
         }
     };
-    let outputs = texts_of(alloc, settings, roots, bundles.as_slice())?;
+    let outputs = texts_of(
+        alloc,
+        settings,
+        roots,
+        table.units.as_slice(),
+        bundles.as_slice(),
+        causes.as_slice(),
+    )?;
     Ok(outputs)
 }
 
@@ -404,7 +433,9 @@ fn texts_of(
     alloc: Global,
     settings: &BundleSettings,
     roots: &[Root],
+    units: &[BundleUnit],
     bundles: &[Bundle],
+    causes: &[BundleCauses],
 ) -> Result<Vec<BundleText>, AllocError>
     ensures texts { IfOk result (λ outputs. length bundles.now ≡ length roots.now →
         AllZip (HasTextOf settings.now) bundles.now outputs.items) }
@@ -413,7 +444,8 @@ fn texts_of(
 {
     let mut outputs = Vec::new(alloc);
     for (bundle, root) in bundles.iter().zip(roots) {
-        outputs.push(output_of(alloc, settings, bundle, root)?)?;
+        let own = causes.get(outputs.len());
+        outputs.push(output_of(alloc, settings, bundle, root, units, own)?)?;
     }
     Ok(outputs)
 }
@@ -425,6 +457,8 @@ fn output_of(
     settings: &BundleSettings,
     bundle: &Bundle,
     root: &Root,
+    units: &[BundleUnit],
+    causes: Option<&BundleCauses>,
 ) -> Result<BundleText, AllocError>
     ensures text { IfOk result (HasTextOf settings.now bundle.now) }
     ensures name { IfOk result (HasNameOf root.now) }
@@ -433,9 +467,55 @@ fn output_of(
         hashbang: root.hashbang.as_ref().map(|line| line.as_str()),
         is_common_js: root.unit != root.file,
     };
-    let text = text_of(alloc, &bundle.module, settings, frame)?;
+    let body = text_of(alloc, &bundle.module, settings, frame)?;
+    let map = map_in(alloc, settings, units, causes, &body)?;
+    let insight = insight_in(alloc, settings, units, root, causes, &body)?;
     let name = root.name.clone()?;
-    Ok(BundleText { name, text })
+    let BundleBody { text, .. } = body;
+    Ok(BundleText {
+        name,
+        text,
+        map,
+        insight,
+    })
+}
+
+// The source map of a bundle, where it is asked for.
+fn map_in(
+    alloc: Global,
+    settings: &BundleSettings,
+    units: &[BundleUnit],
+    causes: Option<&BundleCauses>,
+    body: &BundleBody<'_>,
+) -> Result<Option<String>, AllocError> {
+    match causes {
+        Some(causes) if settings.source_map != MapSetting::Off => {
+            Ok(Some(map_of(alloc, units, settings, causes, body)?))
+        }
+        _ => Ok(None),
+    }
+}
+
+// What a bundle is made of, where that is asked for.
+fn insight_in(
+    alloc: Global,
+    settings: &BundleSettings,
+    units: &[BundleUnit],
+    root: &Root,
+    causes: Option<&BundleCauses>,
+    body: &BundleBody<'_>,
+) -> Result<Option<BundleInsight>, AllocError> {
+    let begin = BundleBegin {
+        unit: root.unit,
+        file: root.file,
+    };
+    match causes {
+        Some(causes) if settings.has_insight => {
+            let insight = insight_of(alloc, units, settings, begin, causes, body)?;
+            Ok(Some(insight))
+        }
+        _ => Ok(None),
+    }
 }
 
 // What the linker makes of the modules.
@@ -443,20 +523,21 @@ fn bundles(
     table: &mut UnitTable,
     settings: &BundleSettings,
     entries: Vec<(String, FileName)>,
-) -> Result<Result<Vec<Bundle>, Error>, AllocError>
+) -> Result<Result<LinkedBundles, Error>, AllocError>
     ensures { IfOk result (λ answer. IsLinked gives_nothing fails_nowhere
         (link_settings settings.now (map string_bytes table.old.externals.keys))
-        (trees_in table.old.units.items) (map entry_of entries.items) (answer_told answer)) }
+        (trees_in table.old.units.items) (map entry_of entries.items) (linked_told answer)) }
 {
     let alloc = table.alloc;
     let config = config_of(alloc, settings, &table.externals)?;
     let trees = trees_of(alloc, table.units.as_mut_slice())?;
     let hook = Box::new(alloc, NoMeta)?;
     let order = settings.in_standard_order;
-    Ok(linked(alloc, trees, config, order, hook, entries))
+    let has_causes = settings.source_map != MapSetting::Off || settings.has_insight;
+    Ok(linked(alloc, trees, config, order, hook, entries, has_causes))
 }
 
-// What the linker makes of trees.
+// What the linker makes of trees, with what the items of the bundles are made for or without.
 fn linked(
     alloc: Global,
     trees: Vec<Option<Module>>,
@@ -464,10 +545,11 @@ fn linked(
     in_standard_order: bool,
     hook: Box<dyn Hook>,
     entries: Vec<(String, FileName)>,
-) -> Result<Vec<Bundle>, Error>
+    has_causes: bool,
+) -> Result<LinkedBundles, Error>
     ensures { IsLinked (may_give hook) (may_fail_hook hook)
         (settings_of (record { base = config; in_standard_order = in_standard_order }))
-        trees.items (map entry_of entries.items) (answer_told result) }
+        trees.items (map entry_of entries.items) (linked_told result) }
 {
     let loader = UnitLoader { trees };
     let config = OrderedConfig {
@@ -475,7 +557,12 @@ fn linked(
         in_standard_order,
     };
     let bundler = Bundler::with_order(alloc, loader, KeyResolver, config, hook);
-    bundler.into_bundles(alloc, entries)
+    let (bundles, causes) = if has_causes {
+        bundler.into_bundles_with_causes(alloc, entries)?
+    } else {
+        (bundler.into_bundles(alloc, entries)?, Vec::new(alloc))
+    };
+    Ok(LinkedBundles { bundles, causes })
 }
 
 // The linker's settings.

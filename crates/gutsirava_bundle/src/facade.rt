@@ -61,6 +61,7 @@ const NAMESPACE_OF: &str = "export function namespaceOf(exports, isNode) {
   if (!isNode && exports && exports.__esModule) return exports;
   const isObject = exports !== null && (typeof exports === \"object\" || typeof exports === \"function\");
   const keys = new Set(isObject ? Object.keys(exports) : []);
+  if (isObject && exports.__esModule) keys.add(\"__esModule\");
   const namespace = Object.create(null);
   for (const key of [...keys.add(\"default\")].sort())
     Object.defineProperty(namespace, key, {

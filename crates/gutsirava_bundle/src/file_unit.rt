@@ -88,12 +88,15 @@ impl Teller<'_> {
         ensures { self.old.messages.errors ≤ self.new.messages.errors }
     {
         let text = plain_text(self.alloc, text)?;
-        if format == FileFormat::Json {
-            self.data_unit(path, text)
+        let bytes = text.len();
+        let mut unit = if format == FileFormat::Json {
+            self.data_unit(path, text)?
         } else {
             let form = self.text_form(path, text.as_str(), format)?;
-            file_unit(self.alloc, path, text, form)
-        }
+            file_unit(self.alloc, path, text, form)?
+        };
+        unit.bytes = bytes;
+        Ok(unit)
     }
 
     // The module of a JSON text.

@@ -6,13 +6,14 @@ ghost use Rattle.bundle_syntax.specs.Item.{item_of};
 ghost use Rattle.gutsirava_bundle.specs.BundleText.{first_line, AddsDirective, Appends, BeginsWithComment, IsBody, IsCall, IsComment, IsFramed, IsModuleBody, IsScriptBody, IsStatement, LeavesComments, directive};
 
 use crate::settings::{BundleSettings, OutputFormat};
-use bundle_js_print::{LeadingComment, print_pieces};
+use bundle_js_print::{LeadingComment, Printed, print_pieces};
 use bundle_scope_denote::{ModuleKind, Reading, denotations};
 use bundle_syntax::{Node, Piece};
 use bundle_tree_ast::Module;
 use bundle_tree_list::pieces_of_module;
 use gutsirava_resolve::TargetPlatform;
 use gutsirava_sources::COMMENT;
+use gutsirava_traces::PrintedList;
 use std::alloc::{AllocError, Global};
 
 /// What a bundle's text has round it.
@@ -31,23 +32,65 @@ struct CommentedList<'a> {
     comments: Vec<LeadingComment<'a>>,
 }
 
+/// The text of a bundle, and what is printed in it.
+#[derive(Drop)]
+pub(crate) struct BundleBody<'a> {
+    pub(crate) text: String,
+    /// The list that is printed, and the place of each piece in its print.
+    pub(crate) pieces: Vec<Piece<'a>>,
+    pub(crate) offsets: Vec<u32>,
+    /// Where in the text the print begins.
+    pub(crate) base: usize,
+}
+
+impl<'a> BundleBody<'a> {
+    /// The list, with the places of its pieces.
+    pub(crate) fn list(&self) -> PrintedList<'_, 'a> {
+        PrintedList {
+            pieces: self.pieces.as_slice(),
+            offsets: self.offsets.as_slice(),
+        }
+    }
+}
+
+// Where a list stands in a text: the place of each piece in its print, and where that begins.
+#[derive(Drop)]
+struct PrintPlaces {
+    offsets: Vec<u32>,
+    base: usize,
+}
+
+// A list that is printed in a text.
+#[derive(Drop)]
+struct PrintedBody<'a> {
+    pieces: Vec<Piece<'a>>,
+    places: PrintPlaces,
+}
+
 /// The text of a bundle: the first line of the entry, where that names a program, and the print of the module's list. What
 /// Node needs for CommonJS stands before the print of a module, and the name that it is left under before that of a script.
-pub(crate) fn text_of(
+pub(crate) fn text_of<'a>(
     alloc: Global,
-    tree: &Module,
+    tree: &'a Module,
     settings: &BundleSettings,
     frame: BundleFrame<'_>,
-) -> Result<String, AllocError>
-    ensures { IfOk result (λ text. IsFramed
+) -> Result<BundleBody<'a>, AllocError>
+    ensures { IfOk result (λ body. IsFramed
         (option_map (λ line. line.now) frame.entry.hashbang) frame.entry.is_common_js
-        settings.now tree.now (string_bytes text)) }
+        settings.now tree.now (string_bytes body.text)) }
 {
     let listed = pieces_of_module(alloc, tree)?;
     let list = without_comments(alloc, listed.as_slice())?;
     let mut text = begun(alloc, frame.hashbang)?;
-    push_body(alloc, &mut text, list, settings, frame.is_common_js)?;
-    Ok(text)
+    let printed = push_body(alloc, &mut text, list, settings, frame.is_common_js)?;
+    let PrintedBody { pieces, places } = printed;
+    let PrintPlaces { offsets, base } = places;
+    Ok(BundleBody {
+        text,
+        pieces,
+        offsets,
+        base,
+    })
 }
 
 // The first line of an entry, where that names a program.
@@ -65,21 +108,25 @@ fn begun(alloc: Global, hashbang: Option<&str>) -> Result<String, AllocError>
 
 // Puts down all but the first line.
 #[tactic(auto, using(std::proofs::lemmas::Grind::common_steps, crate::proofs::BodyLemmas::strict_of_script))]
-fn push_body(
+fn push_body<'a>(
     alloc: Global,
     text: &mut String,
-    list: CommentedList<'_>,
+    list: CommentedList<'a>,
     settings: &BundleSettings,
     is_common_js: bool,
-) -> Result<(), AllocError>
+) -> Result<PrintedBody<'a>, AllocError>
     ensures { OnOk result (Appends (string_bytes text.old) (string_bytes text.new)
         (IsBody settings.now is_common_js (map item_of list.entry.pieces.items))) }
 {
     match settings.format {
-        OutputFormat::Module => push_module(alloc, text, &list, settings),
+        OutputFormat::Module => {
+            let places = push_module(alloc, text, &list, settings)?;
+            Ok(printed_body(list, places))
+        }
         OutputFormat::Iife => {
             let strict = with_directive(alloc, list)?;
-            push_script(alloc, text, &strict, settings, is_common_js)
+            let places = push_script(alloc, text, &strict, settings, is_common_js)?;
+            Ok(printed_body(strict, places))
         }
     }
 }
@@ -90,7 +137,7 @@ fn push_module(
     text: &mut String,
     list: &CommentedList<'_>,
     settings: &BundleSettings,
-) -> Result<(), AllocError>
+) -> Result<PrintPlaces, AllocError>
     ensures { OnOk result (Appends (string_bytes text.old) (string_bytes text.new)
         (IsModuleBody settings.now.platform (map item_of list.now.pieces.items))) }
 {
@@ -102,8 +149,21 @@ fn push_module(
         settings.charset,
     )?;
     text.push_str(words.as_str())?;
+    let base = text.len();
     text.push_str(printed.text.as_str())?;
-    Ok(())
+    Ok(places_of(printed, base))
+}
+
+// Where a list stands whose print begins at a place.
+fn places_of(printed: Printed, base: usize) -> PrintPlaces {
+    let Printed { offsets, .. } = printed;
+    PrintPlaces { offsets, base }
+}
+
+// A list with where it is printed.
+fn printed_body<'a>(list: CommentedList<'a>, places: PrintPlaces) -> PrintedBody<'a> {
+    let CommentedList { pieces, .. } = list;
+    PrintedBody { pieces, places }
 }
 
 // Puts down a script.
@@ -113,7 +173,7 @@ fn push_script(
     list: &CommentedList<'_>,
     settings: &BundleSettings,
     is_common_js: bool,
-) -> Result<(), AllocError>
+) -> Result<PrintPlaces, AllocError>
     ensures { OnOk result (Appends (string_bytes text.old) (string_bytes text.new)
         (IsScriptBody settings.now.global_name is_common_js (map item_of list.now.pieces.items))) }
 {
@@ -125,27 +185,31 @@ fn push_script(
     )?;
     match &settings.global_name {
         None => {
+            let base = text.len();
             text.push_str(printed.text.as_str())?;
-            Ok(())
+            Ok(places_of(printed, base))
         }
-        Some(name) => push_call(
-            alloc,
-            text,
-            printed.text.as_str(),
-            name.as_str(),
-            is_common_js,
-        ),
+        Some(name) => {
+            let base = push_call(
+                alloc,
+                text,
+                printed.text.as_str(),
+                name.as_str(),
+                is_common_js,
+            )?;
+            Ok(places_of(printed, base))
+        }
     }
 }
 
-// Puts down the call that a script is, and the name under which it leaves what it gives.
+// Puts down the call that a script is, and the name under which it leaves what it gives. Gives where the call begins.
 fn push_call(
     alloc: Global,
     text: &mut String,
     script: &str,
     name: &str,
     is_common_js: bool,
-) -> Result<(), AllocError>
+) -> Result<usize, AllocError>
     ensures { OnOk result (Appends (string_bytes text.old) (string_bytes text.new)
         (IsCall name.now is_common_js script.now)) }
 {
@@ -154,10 +218,11 @@ fn push_call(
     text.push_str(owners.as_str())?;
     text.push_str(name)?;
     text.push_str(" = ")?;
+    let base = text.len();
     text.push_str(call)?;
     text.push_str(property_of(call, is_common_js))?;
     text.push_str(";\n")?;
-    Ok(())
+    Ok(base)
 }
 
 // What is read of a call whose promise or value is the namespace of a CommonJS module.

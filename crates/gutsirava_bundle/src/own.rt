@@ -5,13 +5,12 @@ ghost use Rattle.std.specs.Prelude.{◌≤◌};
 use crate::bond::Bond;
 use crate::facade::{Facade, HELPER, NAMESPACE, PUT, REGISTRY, TARGET};
 use crate::graph::MOST_DEPTH;
-use crate::reading::{push_bond, tree_of};
+use crate::reading::{TracedTree, push_bond, tree_of};
 use crate::teller::Teller;
 use crate::unit::UnitOrigin;
 use crate::unit_table::UnitTable;
-use bundle_syntax::{ExportMetadata, Piece};
-use bundle_tree_ast::Module;
-use gutsirava_sources::{Seat, SourceKind, SourceOutline, outline_of, read_as};
+use bundle_syntax::ExportMetadata;
+use gutsirava_sources::{Placed, Seat, SourceKind, SourceOutline, outline_of, read_as};
 use std::alloc::AllocError;
 
 // The text of a module of the command's own.
@@ -79,28 +78,28 @@ impl UnitTable {
     }
 
     // The tree of a text of the command's own; none where it is that of no module.
-    fn own_tree(&mut self, own: &OwnText) -> Result<Option<Module>, AllocError> {
+    fn own_tree(&mut self, own: &OwnText) -> Result<Option<TracedTree>, AllocError> {
         let Ok(source) = read_as(self.alloc, own.text.as_str(), own.kind) else {
             return Ok(None);
         };
         let Ok(placed) = source.pieces(self.alloc, MOST_DEPTH) else {
             return Ok(None);
         };
-        self.listed_tree(placed.pieces.as_slice(), own.kind, own.target)
+        self.listed_tree(&placed, own.kind, own.target)
     }
 
     // The same of its list.
     fn listed_tree(
         &mut self,
-        pieces: &[Piece<'_>],
+        placed: &Placed<'_>,
         kind: SourceKind,
         target: usize,
-    ) -> Result<Option<Module>, AllocError> {
-        let outline = outline_of(self.alloc, pieces)?;
+    ) -> Result<Option<TracedTree>, AllocError> {
+        let outline = outline_of(self.alloc, placed.pieces.as_slice())?;
         let bonds = self.own_bonds(&outline, target)?;
         let notes = ExportMetadata::default();
         let seat = own_seat(kind, &notes);
-        tree_of(self.alloc, pieces, &outline, &bonds, &[], seat)
+        tree_of(self.alloc, placed, &outline, &bonds, &[], seat)
     }
 
     // What stands for each request of a text of the command's own.
@@ -143,9 +142,11 @@ impl UnitTable {
     }
 
     // Puts down the tree of a module.
-    fn put_tree(&mut self, at: usize, tree: Module) {
+    fn put_tree(&mut self, at: usize, traced: TracedTree) {
+        let TracedTree { tree, trace } = traced;
         if let Some(unit) = self.units.get_mut(at) {
             unit.tree = Some(tree);
+            unit.trace = trace;
         }
     }
 }
@@ -158,6 +159,7 @@ fn own_seat(kind: SourceKind, notes: &ExportMetadata) -> Seat<'_> {
         meta_url: None,
         is_main: false,
         is_data: false,
+        keeps_origins: false,
         notes,
     }
 }

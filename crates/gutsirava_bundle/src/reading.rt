@@ -6,7 +6,7 @@ use crate::bond::{Bond, stands_of};
 use crate::graph::{Asker, Graph, MOST_DEPTH};
 use crate::link::{BondedRequest, Wish, bonded};
 use crate::progress::ProgressListener;
-use crate::settings::{BundleSettings, OutputFormat};
+use crate::settings::{BundleSettings, MapSetting, OutputFormat};
 use crate::spot::place_of;
 use crate::teller::{Teller, TextPlace};
 use crate::unit::{ExportTable, UnitFile, UnitLink, UnitOrigin, target_of};
@@ -16,10 +16,11 @@ use bundle_tree_ast::Module;
 use bundle_tree_parse::{BuildError, build_module};
 use gutsirava_resolve::FileSystem;
 use gutsirava_sources::{
-    Exported, KeptComment, KnownKind, Placed, ReadError, Seat, SourceKind, SourceModule,
-    SourceOutline, SourceRecords, Stand, common_js_exports, exports_of, outline_of, read_known,
-    rewritten,
+    Exported, KeptComment, KnownKind, Placed, ReadError, RewrittenList, Seat, SourceKind,
+    SourceModule, SourceOutline, SourceRecords, Stand, common_js_exports, exports_of, outline_of,
+    read_known, rewritten,
 };
+use gutsirava_traces::{NOWHERE, SourceTrace};
 use std::alloc::{AllocError, Global};
 
 // How a module is read.
@@ -37,10 +38,17 @@ struct BondedRequests {
     links: Vec<UnitLink>,
 }
 
+/// The tree of a module, and what is kept of its list for a source map.
+#[derive(Drop)]
+pub(crate) struct TracedTree {
+    pub(crate) tree: Module,
+    pub(crate) trace: Option<SourceTrace>,
+}
+
 // What was read of a module.
 #[derive(Drop)]
 struct Read {
-    tree: Module,
+    tree: TracedTree,
     links: Vec<UnitLink>,
     table: ExportTable,
 }
@@ -184,7 +192,8 @@ impl UnitTable {
         if let Some(unit) = self.units.get_mut(at) {
             unit.origin = UnitOrigin::File(file);
             if let Some(Read { tree, links, table }) = read {
-                unit.tree = Some(tree);
+                unit.tree = Some(tree.tree);
+                unit.trace = tree.trace;
                 unit.links = links;
                 unit.table = table;
             }
@@ -258,6 +267,7 @@ impl<'s> SeatForm<'_, 's> {
             meta_url: self.settings.meta_url.as_ref().map(|url| url.as_str()),
             is_main: self.asker.is_main,
             is_data: self.is_data,
+            keeps_origins: !self.is_data && !matches!(self.settings.source_map, MapSetting::Off),
             notes,
         }
     }
@@ -278,7 +288,7 @@ fn read_bonded<'a>(
     let notes = ExportMetadata::default();
     let pieces = placed.pieces.as_slice();
     let bonds = bonded.bonds.as_slice();
-    match tree_of(alloc, pieces, outline, bonds, comments, form.seat(&notes))? {
+    match tree_of(alloc, placed, outline, bonds, comments, form.seat(&notes))? {
         Some(tree) => {
             let read = read_of(alloc, form.asker.kind, pieces, outline, tree, bonded)?;
             Ok(Some(read))
@@ -387,7 +397,7 @@ fn read_of<'a>(
     kind: SourceKind,
     pieces: &[Piece<'a>],
     outline: &SourceOutline<'a>,
-    tree: Module,
+    tree: TracedTree,
     bonded: BondedRequests,
 ) -> Result<Read, AllocError> {
     let BondedRequests { bonds, links } = bonded;
@@ -520,27 +530,58 @@ fn is_star(pieces: &[Piece<'_>], at: usize) -> bool {
 /// The tree of a module, with what stands for its requests; none where it is that of no module.
 pub(crate) fn tree_of<'p: 'b, 'c: 'b, 'n: 'b, 'b>(
     alloc: Global,
-    pieces: &[Piece<'p>],
+    placed: &Placed<'p>,
     outline: &SourceOutline<'_>,
     bonds: &'b [Bond],
     comments: &[KeptComment<'c>],
     seat: Seat<'n>,
-) -> Result<Option<Module>, AllocError> {
+) -> Result<Option<TracedTree>, AllocError> {
     let stands = stands_of(alloc, bonds)?;
-    rewritten_tree(alloc, pieces, outline, stands.as_slice(), comments, seat)
+    rewritten_tree(alloc, placed, outline, stands.as_slice(), comments, seat)
 }
 
 // The same of these.
 fn rewritten_tree<'p: 'b, 'c: 'b, 'n: 'b, 'b>(
     alloc: Global,
-    pieces: &[Piece<'p>],
+    placed: &Placed<'p>,
     outline: &SourceOutline<'_>,
     stands: &[Stand<'b>],
     comments: &[KeptComment<'c>],
     seat: Seat<'n>,
-) -> Result<Option<Module>, AllocError> {
+) -> Result<Option<TracedTree>, AllocError> {
+    let pieces = placed.pieces.as_slice();
     let made = rewritten(alloc, pieces, outline, stands, comments, seat)?;
-    built(alloc, made.as_slice())
+    traced(alloc, &made, placed.places.as_slice())
+}
+
+// The tree of a list, with what is kept of it.
+fn traced(
+    alloc: Global,
+    made: &RewrittenList<'_>,
+    places: &[u32],
+) -> Result<Option<TracedTree>, AllocError> {
+    let trace = trace_of(alloc, made, places)?;
+    match built(alloc, made.pieces.as_slice())? {
+        Some(tree) => Ok(Some(TracedTree { tree, trace })),
+        None => Ok(None),
+    }
+}
+
+// What is kept of a list, where its origins are kept, and the places of these in the text are known.
+fn trace_of(
+    alloc: Global,
+    made: &RewrittenList<'_>,
+    places: &[u32],
+) -> Result<Option<SourceTrace>, AllocError> {
+    let Some(origins) = &made.origins else {
+        return Ok(None);
+    };
+    let mut kept = Vec::with_capacity(alloc, origins.len())?;
+    for origin in origins {
+        kept.push(places.get(*origin as usize).copied().unwrap_or(NOWHERE))?;
+    }
+    let trace = SourceTrace::of(alloc, made.pieces.as_slice(), kept)?;
+    Ok(Some(trace))
 }
 
 // The tree of a list; none where it is that of no module.

@@ -12,6 +12,17 @@ pub enum OutputFormat {
     Iife,
 }
 
+/// What source map is made of a bundle.
+#[derive(Clone, Copy, Debug, PartialEq, Eq)]
+pub enum MapSetting {
+    /// None.
+    Off,
+    /// One that names the sources.
+    Paths,
+    /// One that holds the texts of the sources too.
+    Contents,
+}
+
 /// What a bundle is to be.
 pub struct BundleSettings {
     pub format: OutputFormat,
@@ -27,6 +38,9 @@ pub struct BundleSettings {
     pub charset: Charset,
     /// Whether comments that hold a licence stay.
     pub keeps_comments: bool,
+    pub source_map: MapSetting,
+    /// Whether it is told what bundles are made of.
+    pub has_insight: bool,
     /// The folder that no module may lie outside of.
     pub root: Option<String>,
     /// The folder that paths are told from, and the one in which the bundles lie.
@@ -47,6 +61,8 @@ impl Drop for BundleSettings {
             meta_url: _meta_url,
             charset: _charset,
             keeps_comments: _keeps_comments,
+            source_map: _source_map,
+            has_insight: _has_insight,
             root: _root,
             folder: _folder,
             output_folder: _output_folder,

@@ -6,6 +6,7 @@ ghost use Rattle.gutsirava_bundle.specs.Numbers.{key_text, IsKeyOf};
 use crate::facade::Facade;
 use bundle_tree_ast::Module;
 use gutsirava_sources::{RequestForm, SourceKind, SourceRecords};
+use gutsirava_traces::SourceTrace;
 use std::alloc::{AllocError, Global};
 use std::collections::BTreeSet;
 
@@ -118,6 +119,8 @@ impl ExportTable {
 pub(crate) struct BundleUnit {
     pub(crate) origin: UnitOrigin,
     pub(crate) kind: SourceKind,
+    /// How many bytes its file has.
+    pub(crate) bytes: usize,
     /// Whether it is declared an ECMAScript module, for which a CommonJS module's default is all of its exports.
     pub(crate) is_node: bool,
     /// Whether it is the one module with which bundles begin.
@@ -125,6 +128,8 @@ pub(crate) struct BundleUnit {
     /// Whether it is not to be read: it was, or it cannot be.
     pub(crate) is_done: bool,
     pub(crate) tree: Option<Module>,
+    /// What is kept of its list, for a source map.
+    pub(crate) trace: Option<SourceTrace>,
     pub(crate) links: Vec<UnitLink>,
     pub(crate) table: ExportTable,
 }
@@ -135,10 +140,12 @@ impl Drop for BundleUnit {
         let BundleUnit {
             origin: _origin,
             kind: _kind,
+            bytes: _bytes,
             is_node: _is_node,
             is_main: _is_main,
             is_done: _is_done,
             tree: _tree,
+            trace: _trace,
             links: _links,
             table: _table,
         } = self;
@@ -151,10 +158,12 @@ impl BundleUnit {
         BundleUnit {
             origin,
             kind,
+            bytes: 0,
             is_node: false,
             is_main: false,
             is_done: false,
             tree: None,
+            trace: None,
             links: Vec::new(alloc),
             table: ExportTable::new(alloc),
         }

@@ -10,7 +10,7 @@ ghost use Rattle.gutsirava_c.specs.Request.{found, under as value_under, AreEntr
 
 use crate::value::value_of;
 use bundle_json_form::FormError;
-use gutsirava_bundle::{BundleEntry, BundleSettings, Charset, OutputFormat};
+use gutsirava_bundle::{BundleEntry, BundleSettings, Charset, MapSetting, OutputFormat};
 use gutsirava_path::join;
 use gutsirava_resolve::{Settings, TargetPlatform};
 use json::{Scratch, Value};
@@ -211,6 +211,8 @@ fn settings_in(alloc: Global, config: Option<&Value<'_>>) -> Result<BundleSettin
         meta_url: None,
         charset: Charset::Utf8,
         keeps_comments: true,
+        source_map: MapSetting::Off,
+        has_insight: false,
         root: None,
         folder: String::from_str(alloc, FOLDER)?,
         output_folder: String::from_str(alloc, FOLDER)?,

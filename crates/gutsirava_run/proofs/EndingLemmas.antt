@@ -1,26 +1,29 @@
 -- How a run ends, by what was made and written.
-use Rattle.std.proofs.Common.{◌≡◌, ◌≢◌, refl, sym, subst, inl, inr, ◌<◌, ℕ, List, map, string_bytes, Result, Ok, Err, IfOk, OnErr}
+use Rattle.std.proofs.Common.{◌≡◌, ◌≢◌, refl, sym, subst, inl, inr, ◌<◌, ◌++◌, ℕ, List, flat_map, map, string_bytes, Result, Ok, Err, IfOk, OnErr}
 use Rattle.gutsirava_words.specs.declared.options.Options.{Options}
 use Rattle.gutsirava_words.specs.declared.error.WordsError.{WordsError}
 use Rattle.gutsirava_words.specs.declared.error.WordsError.TheVariants.{OutOfMemory}
 use Rattle.gutsirava_bundle.specs.declared.bundling.Bundled.{Bundled}
 use Rattle.gutsirava_bundle.specs.declared.settings.OutputFormat.{OutputFormat}
-use Rattle.gutsirava_run.specs.Delivery.{StoredFile, KeepsAll, delivery_of, file_of, stored_file}
+use Rattle.gutsirava_run.specs.Delivery.{StoredFile, KeepsAll, HasViews, delivery_of, files_for, stored_file}
 use Rattle.gutsirava_run.specs.Ending.{Known, Bundles, Ends, IsDelivered, IsUnwritten, IsRefused}
 use Rattle.gutsirava_run.specs.Making.{IsMade, format_of}
 use Rattle.gutsirava_run.specs.declared.error.RunError.{RunError}
 use Rattle.gutsirava_run.specs.declared.store.OutputFile.{OutputFile}
 
-pub ends_delivered : (may_refuse : Type 0) (options : Options) (bundled : Bundled) (format : OutputFormat) (files : List OutputFile) (before after : Known)
-    → format ≡ format_of options.format → map stored_file files ≡ map (file_of options.output format) bundled.outputs.items
+pub ends_delivered : (may_refuse : Type 0) (options : Options) (bundled : Bundled) (format : OutputFormat) (made files : List OutputFile) (before after : Known)
+    → format ≡ format_of options.format
+    → map stored_file made ≡ flat_map (files_for options.output format options.source_map) bundled.outputs.items
+    → HasViews options.output options.views (map stored_file made) (map stored_file files)
     → bundled.messages.errors ≡ 0 → IsDelivered options.output (delivery_of bundled.inputs.items files) before after
     → Ends may_refuse options bundled 0 before after
-ends_delivered may_refuse options bundled format files before after is made fit delivered =
+ends_delivered may_refuse options bundled format made files before after is of_bundles has fit delivered =
     let inputs = map string_bytes bundled.inputs.items in
     let P : OutputFormat → Type 0 = λ it. IsDelivered options.output
-    (record { spared = inputs; files = map (file_of options.output it) bundled.outputs.items }) before after in
-    let Q : List StoredFile → Type 0 = λ it. IsDelivered options.output (record { spared = inputs; files = it }) before after in
-    inl (refl, record { fit = fit; written = subst P is (subst Q made delivered) })
+    (record { spared = inputs; files = flat_map (files_for options.output it options.source_map) bundled.outputs.items ++ has.added }) before after in
+    let Q : List StoredFile → Type 0 = λ it. IsDelivered options.output (record { spared = inputs; files = it ++ has.added }) before after in
+    let R : List StoredFile → Type 0 = λ it. IsDelivered options.output (record { spared = inputs; files = it }) before after in
+    inl (refl, record { fit = fit; views = has.added; named = has.named; written = subst P is (subst Q of_bundles (subst R has.whole delivered)) })
 
 pub ends_faulty : (may_refuse : Type 0) (options : Options) (bundled : Bundled) (status : ℕ) (before after : Known)
     → status ≡ 1 → 0 < bundled.messages.errors → IsUnwritten before after → Ends may_refuse options bundled status before after

@@ -1,3 +1,5 @@
 pub mod EndingLemmas
 pub mod EntryLemmas
 pub mod KnownLemmas
+pub mod MapLemmas
+pub mod ViewLemmas

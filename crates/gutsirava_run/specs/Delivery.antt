@@ -1,13 +1,18 @@
 -- What a run leaves in a store and in the standard output.
-use Rattle.std.specs.Prelude.{◌≡◌, ◌-◌, ◌==◌, ℕ, Bool, false, List, [], ◌∷◌, ◌++◌, length, slice_get, map, codes, Option, Some, None, string_bytes, String, if◌then◌else◌}
+use Rattle.std.specs.Prelude.{◌≡◌, ◌-◌, ◌==◌, ℕ, Bool, false, List, [], ◌∷◌, ◌++◌, length, slice_get, map, codes, option_map, Option, Some, None, string_bytes, String, if◌then◌else◌}
 use Rattle.std.specs.declared.alloc.Global.{Global}
 use Rattle.gutsirava_files.specs.declared.error.OutputError.{OutputError}
 use Rattle.gutsirava_files.specs.declared.error.OutputError.TheVariants as errors
 use Rattle.gutsirava_words.specs.declared.options.Destination.{Destination}
 use Rattle.gutsirava_words.specs.declared.options.Destination.TheVariants.{Stdout, File, Folder}
+use Rattle.gutsirava_words.specs.declared.options.ViewChoices.{ViewChoices}
 use Rattle.gutsirava_bundle.specs.declared.bundling.BundleText.{BundleText}
 use Rattle.gutsirava_bundle.specs.declared.settings.OutputFormat.{OutputFormat}
 use Rattle.gutsirava_bundle.specs.declared.settings.OutputFormat.TheVariants.{Module, Iife}
+use Rattle.gutsirava_maps.specs.Comment.{data_url_of, link_text}
+use Rattle.gutsirava_path.specs.Places.{file_name}
+use Rattle.gutsirava_words.specs.declared.choice.SourceMap.{SourceMap}
+use Rattle.gutsirava_words.specs.declared.choice.SourceMap.TheVariants as maps
 use Rattle.gutsirava_run.specs.declared.store.OutputFile.{OutputFile}
 
 -- a file with its bytes
@@ -71,9 +76,53 @@ path_of Stdout format name = []
 path_of (File path) format name = string_bytes path
 path_of (Folder folder) format name = path_in (string_bytes folder) (name ++ ending_of format)
 
--- the file of a bundle
-abbrev pub file_of : Destination → OutputFormat → BundleText → StoredFile
-file_of output format bundle = record {
-  path = path_of output format (string_bytes bundle.name);
-  bytes = string_bytes bundle.text;
-}
+-- where the map of a file lies
+abbrev pub map_path : List ℕ → List ℕ
+map_path path = path ++ codes ".map"
+
+-- a file, and that of its map
+abbrev pub files_beside : List ℕ → List ℕ → List ℕ → List StoredFile
+files_beside path bytes map =
+    record { path = path; bytes = bytes } ∷ record { path = map_path path; bytes = map } ∷ []
+
+-- the file of a bundle that has a map, and that of the map: the bundle leads to its map, has it in
+-- it, or says nothing
+abbrev pub mapped_files : SourceMap → List ℕ → List ℕ → List ℕ → List StoredFile
+mapped_files maps.None path bytes map = record { path = path; bytes = bytes } ∷ []
+mapped_files maps.Inline path bytes map =
+    record { path = path; bytes = bytes ++ link_text (data_url_of map) } ∷ []
+mapped_files maps.Linked path bytes map =
+    files_beside path (bytes ++ link_text (map_path (file_name path))) map
+mapped_files maps.External path bytes map = files_beside path bytes map
+
+-- the same where there may be no map
+abbrev pub written_files : SourceMap → List ℕ → List ℕ → Option (List ℕ) → List StoredFile
+written_files source_map path bytes None = record { path = path; bytes = bytes } ∷ []
+written_files source_map path bytes (Some map) = mapped_files source_map path bytes map
+
+-- the files of a bundle
+abbrev pub files_for : Destination → OutputFormat → SourceMap → BundleText → List StoredFile
+files_for output format source_map bundle =
+    written_files source_map (path_of output format (string_bytes bundle.name))
+    (string_bytes bundle.text) (option_map string_bytes bundle.map)
+
+-- the path of a file that is asked for
+abbrev pub given_path : Option (String Global) → List (List ℕ)
+given_path None = []
+given_path (Some path) = string_bytes path ∷ []
+
+-- the files of what people look at, which lie beside bundles
+abbrev pub view_paths : Destination → ViewChoices → List (List ℕ)
+view_paths Stdout views = []
+view_paths (File path) views = given_path views.metafile ++ given_path views.graph
+view_paths (Folder path) views = given_path views.metafile ++ given_path views.graph
+
+-- files, and behind them others at these paths
+pub record AddsFiles (paths : List (List ℕ)) (old new : List StoredFile) : Type 0 where
+  pub added : List StoredFile
+  pub whole : new ≡ old ++ added
+  pub named : map (λ file. file.path) added ≡ paths
+
+-- files, and behind them those of what people look at
+abbrev pub HasViews : Destination → ViewChoices → List StoredFile → List StoredFile → Type 0
+HasViews output views old new = AddsFiles (view_paths output views) old new

@@ -1,5 +1,5 @@
 -- How a run ends.
-use Rattle.std.specs.Prelude.{◌≡◌, ◌≢◌, ◌<◌, ◌⊎◌, ℕ, List, [], map, Option, Result, Ok, Err, String, string_bytes}
+use Rattle.std.specs.Prelude.{◌≡◌, ◌≢◌, ◌<◌, ◌⊎◌, ◌++◌, ℕ, List, [], map, Option, Result, Ok, Err, String, string_bytes}
 use Rattle.std.specs.List.{flat_map}
 use Rattle.std.specs.declared.alloc.Global.{Global}
 use Rattle.std.specs.Io.KnownBytes.{Keeps, Appends}
@@ -12,7 +12,7 @@ use Rattle.gutsirava_words.specs.declared.options.Options.{Options}
 use Rattle.gutsirava_words.specs.declared.options.Destination.{Destination}
 use Rattle.gutsirava_words.specs.declared.options.Destination.TheVariants.{Stdout, File, Folder}
 use Rattle.gutsirava_bundle.specs.declared.bundling.Bundled.{Bundled}
-use Rattle.gutsirava_run.specs.Delivery.{StoredFile, Delivery, Delivers, KeepsAll, file_of}
+use Rattle.gutsirava_run.specs.Delivery.{StoredFile, Delivery, Delivers, KeepsAll, files_for, view_paths}
 use Rattle.gutsirava_run.specs.Making.{IsMade, format_of}
 
 -- what is known of the standard output and of the store
@@ -48,17 +48,21 @@ IsDelivered Stdout delivery before after = Prints (texts_of delivery.files) befo
 IsDelivered (File path) delivery before after = Stores delivery before after
 IsDelivered (Folder path) delivery before after = Stores delivery before after
 
--- the files of bundles, as options ask for them, over the inputs of these
-abbrev pub delivery_for : Options → Bundled → Delivery
-delivery_for options bundled = record {
+-- the files of bundles, as options ask for them, and others, over the inputs of these
+abbrev pub delivery_for : Options → Bundled → List StoredFile → Delivery
+delivery_for options bundled views = record {
   spared = map string_bytes bundled.inputs.items;
-  files = map (file_of options.output (format_of options.format)) bundled.outputs.items;
+  files =
+      flat_map (files_for options.output (format_of options.format) options.source_map)
+      bundled.outputs.items ++ views;
 }
 
--- no error is told, and all bundles were written
+-- no error is told, and all bundles were written, with what people look at
 pub record Delivered (options : Options) (bundled : Bundled) (before after : Known) : Type 0 where
   pub fit : bundled.messages.errors ≡ 0
-  pub written : IsDelivered options.output (delivery_for options bundled) before after
+  pub views : List StoredFile
+  pub named : map (λ file. file.path) views ≡ view_paths options.output options.views
+  pub written : IsDelivered options.output (delivery_for options bundled views) before after
 
 -- an error is told, or files may be refused, and nothing was written
 pub record Fails (may_refuse : Type 0) (bundled : Bundled) (before after : Known) : Type 0 where

@@ -1,5 +1,5 @@
 -- What bundles are made of.
-use Rattle.std.specs.Prelude.{◌≡◌, ◌<◌, ◌⊎◌, ℕ, Bool, true, false, List, [], map, Option, Some, None, ◌++◌, IsSome, codes, option_map, string_bytes, String, if◌then◌else◌}
+use Rattle.std.specs.Prelude.{◌≡◌, ◌<◌, ◌⊎◌, ℕ, Bool, true, false, ◌||◌, is_some, List, [], map, Option, Some, None, ◌++◌, IsSome, codes, option_map, string_bytes, String, if◌then◌else◌}
 use Rattle.std.specs.List.{AllZip}
 use Rattle.std.specs.Str.{bytes_eq}
 use Rattle.std.specs.declared.alloc.Global.{Global}
@@ -9,8 +9,15 @@ use Rattle.gutsirava_words.specs.declared.choice.CharsetSetting.{CharsetSetting}
 use Rattle.gutsirava_words.specs.declared.choice.CharsetSetting.TheVariants as settings
 use Rattle.gutsirava_words.specs.declared.choice.LegalComments.{LegalComments}
 use Rattle.gutsirava_words.specs.declared.choice.LegalComments.TheVariants as legal
+use Rattle.gutsirava_words.specs.declared.choice.SourceMap.{SourceMap}
+use Rattle.gutsirava_words.specs.declared.choice.SourceMap.TheVariants as maps
+use Rattle.gutsirava_words.specs.declared.choice.SourcesContent.{SourcesContent}
+use Rattle.gutsirava_words.specs.declared.choice.SourcesContent.TheVariants.{Kept, Dropped}
 use Rattle.gutsirava_words.specs.declared.choice.Order.{Order}
 use Rattle.gutsirava_words.specs.declared.choice.Order.TheVariants.{Standard, Needs}
+use Rattle.gutsirava_words.specs.declared.choice.Switch.{Switch}
+use Rattle.gutsirava_words.specs.declared.choice.Switch.TheVariants as switches
+use Rattle.gutsirava_words.specs.declared.options.ViewChoices.{ViewChoices}
 use Rattle.gutsirava_words.specs.declared.choice.Platform.{Platform}
 use Rattle.gutsirava_words.specs.declared.choice.Platform.TheVariants as platforms
 use Rattle.gutsirava_words.specs.declared.options.Destination.{Destination}
@@ -32,6 +39,8 @@ use Rattle.gutsirava_bundle.specs.Command.{IsCommandAnswer}
 use Rattle.gutsirava_bundle.specs.declared.bundling.Bundled.{Bundled}
 use Rattle.gutsirava_bundle.specs.declared.settings.BundleEntry.{BundleEntry}
 use Rattle.gutsirava_bundle.specs.declared.settings.BundleSettings.{BundleSettings}
+use Rattle.gutsirava_bundle.specs.declared.settings.MapSetting.{MapSetting}
+use Rattle.gutsirava_bundle.specs.declared.settings.MapSetting.TheVariants.{Off, Paths, Contents}
 use Rattle.gutsirava_bundle.specs.declared.settings.OutputFormat.{OutputFormat}
 use Rattle.gutsirava_bundle.specs.declared.settings.OutputFormat.TheVariants as kinds
 
@@ -54,6 +63,21 @@ target_of platforms.Browser = targets.Browser
 abbrev pub stay_inline : LegalComments → Bool
 stay_inline legal.Inline = true
 stay_inline legal.None = false
+
+-- what source map is made
+abbrev pub map_setting : SourceMap → SourcesContent → MapSetting
+map_setting maps.None content = Off
+map_setting _ Kept = Contents
+map_setting _ Dropped = Paths
+
+-- whether a switch is on
+abbrev pub is_on : Switch → Bool
+is_on switches.On = true
+is_on switches.Off = false
+
+-- whether people are to look at something
+abbrev pub has_views : ViewChoices → Bool
+has_views views = is_some views.metafile || (is_some views.graph || is_on views.analyze)
 
 -- which characters a bundle is written in
 abbrev pub charset_of : CharsetSetting → Charset
@@ -99,6 +123,8 @@ pub record IsAskedFor (here : List ℕ) (options : Options) (settings : BundleSe
   pub platform : settings.platform ≡ target_of options.platform
   pub comments : settings.keeps_comments ≡ stay_inline options.legal_comments
   pub charset : settings.charset ≡ charset_of options.charset
+  pub source_map : settings.source_map ≡ map_setting options.source_map options.sources_content
+  pub insight : settings.has_insight ≡ has_views options.views
   pub name : text_of settings.global_name ≡ script_name options.format
   pub globals : map pair_of settings.globals.items ≡ script_globals options.format
   pub meta_url : text_of settings.meta_url ≡ text_of options.meta_url

@@ -11,6 +11,7 @@ use crate::options::format_of;
 use crate::progress::{ProgressLine, Stopwatch};
 use crate::report::{Report, plain_error};
 use crate::store::{BundleStore, OutputFile};
+use crate::views::{analysis_of, overview_of, with_views};
 use gutsirava_bundle::{Bundled, Messages};
 use gutsirava_report::Message;
 use gutsirava_resolve::FileSystem;
@@ -98,7 +99,15 @@ fn bundle<F: FileSystem, S: BundleStore, I: Read, O: Write, E: Write, C: Clock>(
         &mut host.input,
         &mut line,
     )?;
-    let ended = settle(alloc, options, bundled, &mut host.store, &mut host.output)?;
+    let ended = settle(
+        alloc,
+        options,
+        folder.as_str(),
+        report.has_colors,
+        bundled,
+        &mut host.store,
+        &mut host.output,
+    )?;
     let has_files = !matches!(options.output, Destination::Stdout);
     tell(
         alloc,
@@ -128,6 +137,8 @@ struct RunOutcome {
     modules: usize,
     /// The files that were written.
     files: Vec<OutputFile>,
+    /// What takes which part of bundles, where that is to be told.
+    analysis: Option<String>,
 }
 
 impl RunOutcome {
@@ -139,6 +150,7 @@ impl RunOutcome {
             messages,
             modules,
             files: Vec::new(alloc),
+            analysis: None,
         }
     }
 }
@@ -148,6 +160,8 @@ impl RunOutcome {
 fn settle<S: BundleStore, O: Write>(
     alloc: Global,
     options: &Options,
+    folder: &str,
+    has_colors: bool,
     bundled: Bundled,
     store: &mut S,
     output: &mut O,
@@ -158,9 +172,11 @@ fn settle<S: BundleStore, O: Write>(
         (known (O.contents output.new) (S.stored store.new))) }
     ensures failed { OnErr result (KeepsAll (S.stored store.old) (S.stored store.new)) }
 {
+    let mut overview = overview_of(alloc, options, folder, &bundled)?;
     let Bundled {
         outputs,
         inputs,
+        modules: _modules,
         messages,
     } = bundled;
     let Messages { mut list, errors } = messages;
@@ -169,7 +185,9 @@ fn settle<S: BundleStore, O: Write>(
         return Ok(RunOutcome::unwritten(alloc, list, modules));
     }
     let format = format_of(&options.format);
-    let files = files_of(alloc, &options.output, format, outputs)?;
+    let files = files_of(alloc, &options.output, format, options.source_map, outputs)?;
+    let files = with_views(alloc, options, &mut overview, files)?;
+    let analysis = analysis_of(alloc, options, &overview, has_colors)?;
     let refusal = deliver(
         alloc,
         &options.output,
@@ -184,6 +202,7 @@ fn settle<S: BundleStore, O: Write>(
             messages: list,
             modules,
             files,
+            analysis,
         }),
         Some(message) => {
             list.push(message)?;
@@ -210,6 +229,7 @@ fn tell<E: Write, C: Clock>(
         messages,
         modules,
         files,
+        analysis,
     } = ended;
     let told = report.tell(alloc, messages, errors);
     if status != 0 {
@@ -220,6 +240,9 @@ fn tell<E: Write, C: Clock>(
         if let Ok(milliseconds) = stopwatch.milliseconds() {
             let _ = report.sum_up(alloc, modules, files.as_slice(), milliseconds, errors);
         }
+    }
+    if let Some(text) = analysis {
+        let _ = errors.write_all(text.as_bytes());
     }
     Ok(status)
 }

@@ -1,7 +1,9 @@
 //! Bundles, written to where they go.
-ghost use Rattle.std.specs.Prelude.{◌≡◌, ◌-◌, ◌++◌, length, slice_get, map, IfOk, OnOk, OnErr, MatchOption, string_bytes};
+ghost use Rattle.std.specs.Prelude.{◌≡◌, ◌-◌, ◌++◌, flat_map, length, slice_get, map, IfOk, OnOk, OnErr, MatchOption, string_bytes};
 ghost use Rattle.std.specs.Io.KnownBytes.{Appends};
-ghost use Rattle.gutsirava_run.specs.Delivery.{KeepsAll, delivery_of, ending_of, file_of, is_slash, path_in, path_of, stored_file};
+ghost use Rattle.gutsirava_maps.specs.Comment.{data_url_of, link_text};
+ghost use Rattle.gutsirava_path.specs.Places.{file_name};
+ghost use Rattle.gutsirava_run.specs.Delivery.{KeepsAll, delivery_of, ending_of, files_beside, files_for, is_slash, map_path, mapped_files, path_in, path_of, stored_file};
 ghost use Rattle.gutsirava_run.specs.Ending.{IsDelivered, IsUnwritten, known, texts_of};
 
 use crate::error::RunError;
@@ -9,32 +11,125 @@ use crate::report::plain_error;
 use crate::store::{BundleStore, OutputFile};
 use gutsirava_bundle::{BundleText, OutputFormat};
 use gutsirava_files::OutputError;
+use gutsirava_maps::{data_url, linked_comment};
+use gutsirava_path::file_name;
 use gutsirava_report::Message;
-use gutsirava_words::Destination;
+use gutsirava_words::{Destination, SourceMap};
 use std::alloc::{AllocError, Global};
 use std::io::Write;
 
-/// The files of bundles, in their order.
+/// The files of bundles, in their order, each with that of its source map behind it.
 pub(crate) fn files_of(
     alloc: Global,
     output: &Destination,
     format: OutputFormat,
+    source_map: SourceMap,
     bundles: Vec<BundleText>,
 ) -> Result<Vec<OutputFile>, AllocError>
-    ensures { IfOk result (λ files.
-        map stored_file files.items ≡ map (file_of output.now format) bundles.items) }
+    ensures { IfOk result (λ files. map stored_file files.items
+        ≡ flat_map (files_for output.now format source_map) bundles.items) }
 {
     let mut files = Vec::new(alloc);
     for bundle in bundles {
-        let BundleText { name, text } = bundle;
+        let BundleText {
+            name,
+            text,
+            map,
+            ..
+        } = bundle;
         let path = path_of(alloc, output, format, name.as_str())?;
-        files.push(OutputFile { path, text })?;
+        match map {
+            None => files.push(OutputFile { path, text })?,
+            Some(map) => push_mapped(alloc, &mut files, source_map, path, text, map)?,
+        }
     }
     Ok(files)
 }
 
+/// Adds the file of a bundle and, where that is another, the one of its map.
+fn push_mapped(
+    alloc: Global,
+    files: &mut Vec<OutputFile>,
+    source_map: SourceMap,
+    path: String,
+    text: String,
+    map_text: String,
+) -> Result<(), AllocError>
+    ensures { OnOk result (map stored_file files.new.items ≡ map stored_file files.old.items
+        ++ mapped_files source_map (string_bytes path) (string_bytes text) (string_bytes map_text)) }
+{
+    match source_map {
+        SourceMap::None => files.push(OutputFile { path, text })?,
+        SourceMap::Inline => {
+            let text = with_map(alloc, text, map_text.as_str())?;
+            files.push(OutputFile { path, text })?;
+        }
+        SourceMap::Linked => {
+            let text = with_map_beside(alloc, text, path.as_str())?;
+            push_beside(alloc, files, path, text, map_text)?;
+        }
+        SourceMap::External => push_beside(alloc, files, path, text, map_text)?,
+    }
+    Ok(())
+}
+
+/// Adds the file of a bundle and that of its map.
+fn push_beside(
+    alloc: Global,
+    files: &mut Vec<OutputFile>,
+    path: String,
+    text: String,
+    map_text: String,
+) -> Result<(), AllocError>
+    ensures { OnOk result (map stored_file files.new.items ≡ map stored_file files.old.items
+        ++ files_beside (string_bytes path) (string_bytes text) (string_bytes map_text)) }
+{
+    let beside = map_path(alloc, path.as_str())?;
+    files.push(OutputFile { path, text })?;
+    files.push(OutputFile {
+        path: beside,
+        text: map_text,
+    })?;
+    Ok(())
+}
+
+/// Where the map of a bundle lies.
+fn map_path(alloc: Global, path: &str) -> Result<String, AllocError>
+    ensures { IfOk result (λ it. string_bytes it ≡ map_path path.now) }
+{
+    format!(in alloc; "{path}.map")
+}
+
+/// A text with its map in a comment behind it.
+fn with_map(alloc: Global, text: String, map_text: &str) -> Result<String, AllocError>
+    ensures { IfOk result (λ it. string_bytes it
+        ≡ string_bytes text ++ link_text (data_url_of map_text.now)) }
+{
+    let url = data_url(alloc, map_text)?;
+    with_link(alloc, text, url.as_str())
+}
+
+/// The text of the file at this path, with a comment behind it that leads to the map beside that.
+fn with_map_beside(alloc: Global, text: String, path: &str) -> Result<String, AllocError>
+    ensures { IfOk result (λ it. string_bytes it
+        ≡ string_bytes text ++ link_text (map_path (file_name path.now))) }
+{
+    let url = map_path(alloc, file_name(path))?;
+    with_link(alloc, text, url.as_str())
+}
+
+/// A text with the comment that leads to its map behind it.
+fn with_link(alloc: Global, text: String, url: &str) -> Result<String, AllocError>
+    ensures { IfOk result (λ it. string_bytes it ≡ string_bytes text ++ link_text url.now) }
+{
+    let mut text = text;
+    let comment = linked_comment(alloc, url)?;
+    text.push_str(comment.as_str())?;
+    Ok(text)
+}
+
 /// Where a bundle of this name goes; the empty text where it goes to the standard output.
-fn path_of(
+pub(crate) fn path_of(
     alloc: Global,
     output: &Destination,
     format: OutputFormat,

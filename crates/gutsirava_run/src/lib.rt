@@ -11,6 +11,7 @@ mod options;
 mod progress;
 mod report;
 mod store;
+mod views;
 
 pub use command::run;
 pub use error::RunError;

@@ -1,13 +1,14 @@
 //! The options of the command, as the crates below it take them.
 ghost use Rattle.std.specs.Prelude.{◌≡◌, ◌++◌, map, option_map, string_bytes, IfOk, OnOk};
-ghost use Rattle.gutsirava_run.specs.Making.{IsAskedFor, IsResolvedFor, charset_of, field_of, format_of, global_of, is_standard, output_folder, pair_of, path_from, script_globals, script_name, stay_inline, target_of, text_of};
+ghost use Rattle.gutsirava_run.specs.Making.{IsAskedFor, IsResolvedFor, charset_of, field_of, format_of, global_of, is_standard, map_setting, output_folder, pair_of, path_from, script_globals, script_name, stay_inline, target_of, text_of};
 
-use gutsirava_bundle::{BundleSettings, Charset, OutputFormat};
+use crate::views::has_views;
+use gutsirava_bundle::{BundleSettings, Charset, MapSetting, OutputFormat};
 use gutsirava_path::{folder_of, join};
 use gutsirava_resolve::{Externals, MainField, Settings as Resolution, TargetPlatform};
 use gutsirava_words::{
     CharsetSetting, Destination, ExternalGlobal, FormatSetting, LegalComments, Options, Order,
-    Platform,
+    Platform, SourceMap, SourcesContent,
 };
 use std::alloc::{AllocError, Global};
 
@@ -31,6 +32,8 @@ pub(crate) fn settings_of(
         meta_url,
         charset: charset_of(options.charset),
         keeps_comments: stay_inline(options.legal_comments),
+        source_map: map_setting(options.source_map, options.sources_content),
+        has_insight: has_views(options),
         root: folders.root,
         folder: folders.here,
         output_folder: folders.output,
@@ -172,6 +175,18 @@ fn stay_inline(comments: LegalComments) -> bool
     match comments {
         LegalComments::Inline => true,
         LegalComments::None => false,
+    }
+}
+
+fn map_setting(map: SourceMap, content: SourcesContent) -> MapSetting
+    ensures { result ≡ map_setting map content }
+{
+    match map {
+        SourceMap::None => MapSetting::Off,
+        SourceMap::Linked | SourceMap::Inline | SourceMap::External => match content {
+            SourcesContent::Kept => MapSetting::Contents,
+            SourcesContent::Dropped => MapSetting::Paths,
+        },
     }
 }
 

@@ -9,6 +9,7 @@ use Rattle.bundle_syntax.specs.declared.piece.Role.TheVariants.{Binding, Referen
 use Rattle.bundle_syntax.specs.Item as i
 use Rattle.gutsirava_sources.specs.declared.kind.SourceKind.{SourceKind}
 use Rattle.gutsirava_sources.specs.declared.kind.SourceKind.TheVariants.{EcmaScript, CommonJs}
+use Rattle.gutsirava_sources.specs.declared.made.TheConstants.{NO_ORIGIN}
 use Rattle.gutsirava_sources.specs.declared.outline.RequestForm.{RequestForm}
 use Rattle.gutsirava_sources.specs.declared.outline.RequestForm.TheVariants.{Import, Require, Dynamic}
 use Rattle.gutsirava_sources.specs.declared.outline.SourceOutline.{SourceOutline}
@@ -25,7 +26,7 @@ use Rattle.gutsirava_sources.specs.declared.stand.Stand.{Stand}
 use Rattle.gutsirava_sources.specs.declared.stand.Stand.TheVariants as s
 use Rattle.gutsirava_sources.specs.Parts.{asks_at, asks_for, is_same, is_star_node}
 use Rattle.gutsirava_sources.specs.Places.{behind, end_of, field_in, is_among, is_meta, is_meta_url, is_prototype_key, node_at, text_in}
-use Rattle.gutsirava_sources.specs.Written.{Written, added_all, call_items, comment_items, loader_items, name_item, source_items, text_items}
+use Rattle.gutsirava_sources.specs.Written.{Written, added_all, call_items, comment_items, loader_items, name_item, source_items, text_items, from_nowhere, from_place}
 
 -- what the list is made of: the list of the text, the places of `require.main`, the comments, and
 -- what the module is
@@ -46,7 +47,7 @@ source_of it pieces = record {
 -- a comment more
 abbrev pub commented : Written → List ℕ → Written
 commented done text =
-    record { list = (added_all done (comment_items text)).list; told = done.told + 1 }
+    record (added_all (from_nowhere done) (comment_items text)) { told = done.told + 1 }
 
 -- with those of these comments, from the first on, that stand before the statement at a place
 abbrev pub commented_all : ℕ → List PlacedComment → Written → Written
@@ -107,7 +108,8 @@ end_by None pieces at = behind at 1
 
 -- with what stands for the node at a place
 abbrev pub put : Source → ℕ → Written → Written
-put it at done = added_all done (items_by (replacement_at it at) (slice_get it.pieces at))
+put it at done =
+    added_all (from_place at done) (items_by (replacement_at it at) (slice_get it.pieces at))
 
 abbrev pub put_end : Source → ℕ → ℕ
 put_end it at = end_by (replacement_at it at) it.pieces at
@@ -236,15 +238,19 @@ parted it request keys done =
     (grouped it request Properties keys.names.now
     (grouped it request Namespace keys.namespace.now (begun it request keys done))))
 
+-- with what stands in the place of a request
+abbrev pub stood : Source → SourceRequest → Stand → Written → Written
+stood it request (s.Left text) done = respecified it request text.now done
+stood it request (s.Module text) done = respecified it request text.now done
+stood it request (s.Parts keys) done = parted it request keys done
+stood it request (s.Load key name) done =
+    added_all done (call_items (field_in (slice_get it.pieces request.begin)) name.now)
+stood it request (s.Loader key) done =
+    added_all done (loader_items (field_in (slice_get it.pieces request.begin)) key.now)
+
 -- with a request in whose place this stands
 abbrev pub requested : Source → SourceRequest → Stand → Written → Written
-requested it request (s.Left text) done = respecified it request text.now done
-requested it request (s.Module text) done = respecified it request text.now done
-requested it request (s.Parts keys) done = parted it request keys done
-requested it request (s.Load key name) done =
-    added_all done (call_items (field_in (slice_get it.pieces request.begin)) name.now)
-requested it request (s.Loader key) done =
-    added_all done (loader_items (field_in (slice_get it.pieces request.begin)) key.now)
+requested it request stand done = stood it request stand (from_place request.begin done)
 
 -- what is put down up to a place
 pub record Reached : Type 0 where
@@ -294,25 +300,41 @@ rewritten_on it outline stands done =
     (record { place = 0; done = done }) in
     let end = length it.pieces - 1 in
     let body = copied it reached.place end reached.done in
-    let loads = fold (loaded it.seat.notes.now) body stands in
+    let loads = fold (loaded it.seat.notes.now) (from_nowhere body) stands in
     let whole = added_all loads
     (kind_items it.seat.notes.now it.seat.kind outline.has_declarations
     outline.names_common_js) in
     copied it end (length it.pieces) whole
 
--- a list is that of a module in which each request stands as it is told. The comments stand each
--- before a statement of the module's top, or its end
+-- nothing, where origins are asked for or not
+abbrev pub blank : Bool → Written
+blank keeps_origins = record {
+  list = [];
+  told = 0;
+  origins = if keeps_origins then Some [] else None;
+  origin = NO_ORIGIN;
+}
+
+-- the list of a module with these comments in which each request stands as it is told
+abbrev pub written_whole
+    : List d.Piece → SourceOutline → List Stand → List PlacedComment → Seat → Written
+written_whole pieces outline stands comments seat =
+    rewritten_on (record {
+      pieces = pieces;
+      mains = outline.mains.items;
+      comments = comments;
+      seat = seat;
+    }) outline stands (blank seat.keeps_origins)
+
+-- a list is that of a module in which each request stands as it is told, and these are the origins
+-- of its pieces, where they are asked for. The comments stand each before a statement of the
+-- module's top, or its end
 pub record IsRewritten
     (pieces : List d.Piece) (outline : SourceOutline) (stands : List Stand)
-    (texts : List (List ℕ)) (seat : Seat) (list : List d.Piece) : Type 0
+    (texts : List (List ℕ)) (seat : Seat) (list : List d.Piece) (origins : Option (List ℕ)) : Type 0
   where
     pub comments : List PlacedComment
     pub same_texts : map (λ comment. comment.text.now) comments ≡ texts
     pub within : All (λ comment. comment.place ≤ length pieces - 1) comments
-    pub is_list : map i.item_of list
-        ≡ (rewritten_on (record {
-          pieces = pieces;
-          mains = outline.mains.items;
-          comments = comments;
-          seat = seat;
-        }) outline stands (record { list = []; told = 0 })).list
+    pub is_list : map i.item_of list ≡ (written_whole pieces outline stands comments seat).list
+    pub is_origins : origins ≡ (written_whole pieces outline stands comments seat).origins

@@ -1,5 +1,5 @@
 -- What is put down in a list that is being made.
-use Rattle.std.specs.Prelude.{◌++◌, ℕ, false, List, [], ◌∷◌, Some, None, fold, map, codes}
+use Rattle.std.specs.Prelude.{◌++◌, ℕ, false, min, List, [], ◌∷◌, Option, Some, None, fold, map, option_map, codes}
 use Rattle.bundle_syntax.specs.declared.piece.Role.{Role}
 use Rattle.bundle_syntax.specs.declared.piece.Role.TheVariants.{Reference}
 use Rattle.bundle_syntax.specs.Item as i
@@ -7,19 +7,42 @@ use Rattle.gutsirava_sources.specs.declared.made.FormNode.{FormNode}
 use Rattle.gutsirava_sources.specs.declared.made.FormNode.TheVariants as f
 use Rattle.gutsirava_sources.specs.declared.made.MadeList.{MadeList}
 use Rattle.gutsirava_sources.specs.declared.made.FormPart.{FormPart}
+use Rattle.gutsirava_sources.specs.declared.made.TheConstants.{NO_ORIGIN}
 use Rattle.gutsirava_sources.specs.declared.made.FormPart.TheVariants as t
 
--- the list so far, and how many comments stand in it
+-- the list so far, how many comments stand in it, where that is asked for the origin of each item,
+-- and the origin of the next
 pub record Written : Type 0 where
   pub list : List i.Item
   pub told : ℕ
+  pub origins : Option (List ℕ)
+  pub origin : ℕ
 
 abbrev pub written_of : MadeList → Written
-written_of made = record { list = map i.item_of made.list.items; told = made.told }
+written_of made = record {
+  list = map i.item_of made.list.items;
+  told = made.told;
+  origins = option_map (λ origins. origins.items) made.origins;
+  origin = made.origin;
+}
+
+-- with one more number, where they are asked for
+abbrev pub noted : Option (List ℕ) → ℕ → Option (List ℕ)
+noted None origin = None
+noted (Some origins) origin = Some (origins ++ origin ∷ [])
 
 -- with one more item
 abbrev pub added : Written → i.Item → Written
-added done item = record { list = done.list ++ (item ∷ []); told = done.told }
+added done item =
+    record done { list = done.list ++ (item ∷ []); origins = noted done.origins done.origin }
+
+-- what is put down next stands at a place of the text's list, or for what stands there
+abbrev pub from_place : ℕ → Written → Written
+from_place place done = record done { origin = min place NO_ORIGIN }
+
+-- what is put down next stands for nothing in the text
+abbrev pub from_nowhere : Written → Written
+from_nowhere done = record done { origin = NO_ORIGIN }
 
 -- with more items
 abbrev pub added_all : Written → List i.Item → Written

@@ -1,9 +1,9 @@
 //! The list of a module as the linker is handed it.
 
-ghost use Rattle.std.specs.Prelude.{◌≡◌, ◌≤◌, ◌-◌, All, IfOk, length, map};
+ghost use Rattle.std.specs.Prelude.{◌≡◌, ◌≤◌, ◌-◌, [], All, IfOk, None, Some, if◌then◌else◌, length, map, option_map};
 ghost use Rattle.gutsirava_sources.specs.Rewritten.{IsRewritten};
 
-use crate::made::MadeList;
+use crate::made::{MadeList, NO_ORIGIN};
 use crate::outline::SourceOutline;
 use crate::rewriter::{PlacedComment, Rewriter};
 use crate::stand::{Seat, Stand};
@@ -11,6 +11,15 @@ use crate::writing::write_module;
 use bundle_js_read::KeptComment;
 use bundle_syntax::Piece;
 use std::alloc::{AllocError, Global};
+
+/// The list of a module as the linker is handed it.
+#[derive(Drop)]
+pub struct RewrittenList<'a> {
+    pub pieces: Vec<Piece<'a>>,
+    /// Where that is asked for, for each piece the place in the list of the text at which it stands, or at which stands
+    /// what it was put in the place of; `NO_ORIGIN` for what was put in beside that.
+    pub origins: Option<Vec<u32>>,
+}
 
 /// The list of a module as the linker is handed it: `stands` has, for each request of the outline in turn, what stands
 /// in its place. An import of a CommonJS module is split into its parts, and runs the module where it stands. A comment
@@ -23,9 +32,10 @@ pub fn rewritten<'p, 'a>(
     stands: &[Stand<'a>],
     remarks: &[KeptComment<'a>],
     seat: Seat<'a>,
-) -> Result<Vec<Piece<'a>>, AllocError>
-    ensures { IfOk result (λ list. IsRewritten pieces.now outline.now stands.now
-        (map (λ remark. remark.text.now) remarks.now) seat.entry list.items) }
+) -> Result<RewrittenList<'a>, AllocError>
+    ensures { IfOk result (λ it. IsRewritten pieces.now outline.now stands.now
+        (map (λ remark. remark.text.now) remarks.now) seat.entry it.pieces.items
+        (option_map (λ origins. origins.items) it.origins)) }
 {
     let comments = comments_of(alloc, pieces, remarks)?;
     let rewriter = Rewriter {
@@ -33,12 +43,35 @@ pub fn rewritten<'p, 'a>(
         comments: comments.as_slice(),
         seat,
     };
+    let most = pieces.len().saturating_add(16);
     let mut made = MadeList {
-        list: Vec::with_capacity(alloc, pieces.len().saturating_add(16))?,
+        list: Vec::with_capacity(alloc, most)?,
         told: 0,
+        origins: origins_of(alloc, seat.keeps_origins, most)?,
+        origin: NO_ORIGIN,
     };
     write_module(&mut made, pieces, outline, stands, &rewriter)?;
-    Ok(made.list)
+    let MadeList { list, origins, .. } = made;
+    Ok(RewrittenList {
+        pieces: list,
+        origins,
+    })
+}
+
+// Room for the origins of pieces, where they are asked for.
+fn origins_of(
+    alloc: Global,
+    keeps_origins: bool,
+    most: usize,
+) -> Result<Option<Vec<u32>>, AllocError>
+    ensures { IfOk result (λ it. option_map (λ origins. origins.items) it
+        ≡ (if keeps_origins then Some [] else None)) }
+{
+    if keeps_origins {
+        Ok(Some(Vec::with_capacity(alloc, most)?))
+    } else {
+        Ok(None)
+    }
 }
 
 // The comments of a module, each with the place of the statement of its top before which it stands, or of its end.

@@ -47,6 +47,8 @@ pub struct Seat<'k> {
     pub is_main: bool,
     /// Whether it is JSON, in which no key means more than itself.
     pub is_data: bool,
+    /// Whether it is told where in the text each piece stands.
+    pub keeps_origins: bool,
     /// What is noted on a declaration that is made.
     pub notes: &'k ExportMetadata,
 }

@@ -35,6 +35,7 @@ pub(crate) fn write_module<'a>(
     let end = pieces.len().saturating_sub(1);
     let at = write_requests(made, pieces, outline.requests.as_slice(), stands, it)?;
     copy(made, pieces, at, end, it)?;
+    made.set_no_origin();
     write_loads(made, stands, it)?;
     write_kind(made, outline.has_declarations, outline.names_common_js, it)?;
     copy(made, pieces, end, pieces.len(), it)
@@ -138,6 +139,7 @@ fn write_comments<'a>(
         if comment.place > at {
             break;
         }
+        made.set_no_origin();
         write_comment(made, comment.text)?;
         made.told = number + 1;
     }
@@ -183,6 +185,7 @@ fn put<'a>(
     ensures done { OnOk result (written_of made.new
         ≡ re.put (source_of it.now pieces.now) at (written_of made.old)) }
 {
+    made.set_origin(at);
     match replacement_at(pieces, at, it) {
         Some(replacement) => {
             let field = field_of(pieces, at);
@@ -206,6 +209,22 @@ fn write_request<'a>(
 ) -> Result<(), AllocError>
     ensures { OnOk result (written_of made.new
         ≡ re.requested (source_of it.now pieces.now) request.now stand.entry
+        (written_of made.old)) }
+{
+    made.set_origin(request.begin);
+    write_stand(made, pieces, request, stand, it)
+}
+
+// Puts down what stands in the place of a request.
+fn write_stand<'a>(
+    made: &mut MadeList<'a>,
+    pieces: &[Piece<'a>],
+    request: &SourceRequest<'_>,
+    stand: Stand<'a>,
+    it: &Rewriter<'_, 'a>,
+) -> Result<(), AllocError>
+    ensures { OnOk result (written_of made.new
+        ≡ re.stood (source_of it.now pieces.now) request.now stand.entry
         (written_of made.old)) }
 {
     let field = field_of(pieces, request.begin);

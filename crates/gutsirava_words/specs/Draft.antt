@@ -1,16 +1,21 @@
 -- What a word changes, and what is made of all of them.
-use Rattle.std.specs.Prelude.{◌≡◌, ◌≢◌, ◌<◌, ◌⊎◌, ◌==◌, ℕ, List, [], ◌∷◌, ◌++◌, Option, Some, None, map, codes, IsSomeAnd, IsSome, IsNone, vec_len, Vec, String}
+use Rattle.std.specs.Prelude.{◌≡◌, ◌≢◌, ◌<◌, ◌⊎◌, ◌==◌, ℕ, Bool, true, false, List, [], ◌∷◌, ◌++◌, Option, Some, None, map, codes, IsSomeAnd, IsSome, IsNone, IsTrue, vec_len, Vec, String}
 use Rattle.std.specs.List.{slice_split}
 use Rattle.std.specs.declared.alloc.Global.{Global}
 use Rattle.std.specs.String.{string_bytes}
-use Rattle.gutsirava_words.specs.Choice.{format_text, platform_text, order_text, charset_text, legal_comments_text, log_level_text, color_text}
+use Rattle.gutsirava_words.specs.Choice.{format_text, platform_text, order_text, charset_text, legal_comments_text, log_level_text, color_text, source_map_text, sources_content_text, switch_text}
+use Rattle.gutsirava_words.specs.Output.{knows_parts}
 use Rattle.gutsirava_words.specs.declared.choice.FormatKind.{FormatKind}
 use Rattle.gutsirava_words.specs.declared.choice.FormatKind.TheVariants as kinds
 use Rattle.gutsirava_words.specs.declared.choice.Platform.TheVariants.{Node}
 use Rattle.gutsirava_words.specs.declared.choice.Order.TheVariants.{Standard}
 use Rattle.gutsirava_words.specs.declared.choice.CharsetSetting.TheVariants.{Ascii}
 use Rattle.gutsirava_words.specs.declared.choice.LegalComments.TheVariants.{Inline}
+use Rattle.gutsirava_words.specs.declared.choice.SourceMap.{SourceMap}
+use Rattle.gutsirava_words.specs.declared.choice.SourceMap.TheVariants as maps
+use Rattle.gutsirava_words.specs.declared.choice.SourcesContent.TheVariants.{Kept}
 use Rattle.gutsirava_words.specs.declared.choice.LogLevel.TheVariants.{Info}
+use Rattle.gutsirava_words.specs.declared.choice.Switch.TheVariants.{Off, On}
 use Rattle.gutsirava_words.specs.declared.choice.Color.TheVariants.{Auto}
 use Rattle.gutsirava_words.specs.declared.key.Key.{Key}
 use Rattle.gutsirava_words.specs.declared.key.Key.TheVariants as keys
@@ -41,6 +46,12 @@ pub record IsFresh (draft : Draft) : Type 0 where
   pub charset : draft.charset ≡ Ascii
   pub legal_comments : draft.legal_comments ≡ Inline
   pub meta_url : draft.meta_url ≡ None
+  pub source_map : draft.source_map ≡ maps.None
+  pub sources_content : draft.sources_content ≡ Kept
+  pub metafile : draft.views.metafile ≡ None
+  pub graph : draft.views.graph ≡ None
+  pub analyze : draft.views.analyze ≡ Off
+  pub watch : draft.views.watch ≡ Off
   pub log_level : draft.log_level ≡ Info
   pub color : draft.color ≡ Auto
 
@@ -98,6 +109,23 @@ Sets keys.LegalComments value old new =
     × (new ≡ record old { legal_comments = new.legal_comments })
 Sets keys.DefineMeta value old new =
     IsText new.meta_url value × (new ≡ record old { meta_url = new.meta_url })
+Sets keys.SourceMap value old new =
+    (source_map_text new.source_map ≡ value) × (new ≡ record old { source_map = new.source_map })
+Sets keys.SourcesContent value old new =
+    (sources_content_text new.sources_content ≡ value)
+    × (new ≡ record old { sources_content = new.sources_content })
+Sets keys.Metafile value old new =
+    IsText new.views.metafile value
+    × (new ≡ record old { views = record old.views { metafile = new.views.metafile } })
+Sets keys.Graph value old new =
+    IsText new.views.graph value
+    × (new ≡ record old { views = record old.views { graph = new.views.graph } })
+Sets keys.Analyze value old new =
+    (switch_text new.views.analyze ≡ value)
+    × (new ≡ record old { views = record old.views { analyze = new.views.analyze } })
+Sets keys.Watch value old new =
+    (switch_text new.views.watch ≡ value)
+    × (new ≡ record old { views = record old.views { watch = new.views.watch } })
 Sets keys.LogLevel value old new =
     (log_level_text new.log_level ≡ value) × (new ≡ record old { log_level = new.log_level })
 Sets keys.Color value old new =
@@ -115,14 +143,35 @@ AddsEntry word old new =
     × (new.entries.items ≡ old.entries.items ++ entry ∷ []))
     × (new ≡ record old { entries = new.entries })
 
--- the words contradict each other: no file, several and no folder, a file and a folder, or
--- variables of no script
+-- whether such a source map is a file
+abbrev pub is_file : SourceMap → Bool
+is_file maps.Linked = true
+is_file maps.External = true
+is_file maps.None = false
+is_file maps.Inline = false
+
+-- whether a source map is a file
+abbrev pub has_map_file : Draft → Bool
+has_map_file draft = is_file draft.source_map
+
+-- a file of a view and no folder, or what is watched
+abbrev pub ViewsContradict : Draft → Type 0
+ViewsContradict draft =
+    ((IsSome draft.views.metafile ⊎ IsSome draft.views.graph) × IsNone draft.outdir)
+    ⊎ (draft.views.watch ≡ On)
+
+-- the words contradict each other: no file, several and no folder, a file and a folder, the file
+-- of a source map and no folder, what is told of parts that are not known, or variables of no
+-- script
 abbrev pub Contradicts : Draft → Type 0
 Contradicts draft =
     (vec_len draft.entries ≡ 0)
     ⊎ (((1 < vec_len draft.entries) × IsNone draft.outdir)
     ⊎ ((IsSome draft.outfile × IsSome draft.outdir)
-    ⊎ ((draft.format ≡ kinds.Esm) × (IsSome draft.global_name ⊎ (0 < vec_len draft.globals)))))
+    ⊎ (((has_map_file draft ≡ true) × IsNone draft.outdir)
+    ⊎ (ViewsContradict draft
+    ⊎ ((knows_parts draft.order draft.source_map draft.views ≡ false)
+    ⊎ ((draft.format ≡ kinds.Esm) × (IsSome draft.global_name ⊎ (0 < vec_len draft.globals))))))))
 
 -- one of two texts at most is there
 abbrev pub IsOneAtMost : Option (String Global) → Option (String Global) → Type 0
@@ -140,6 +189,7 @@ pub record Agrees (draft : Draft) : Type 0 where
   pub some : 0 < vec_len draft.entries
   pub one_output : IsOneAtMost draft.outfile draft.outdir
   pub one_unless_folder : 1 < vec_len draft.entries → IsSome draft.outdir
+  pub parts : IsTrue (knows_parts draft.order draft.source_map draft.views)
   pub of_format : AreOfFormat draft.format draft.global_name draft.globals.items
 
 -- where bundles go: into the folder, to the file, or to the standard output where there is neither
@@ -173,5 +223,8 @@ pub record Holds (draft : Draft) (options : Options) : Type 0 where
   pub charset : options.charset ≡ draft.charset
   pub legal_comments : options.legal_comments ≡ draft.legal_comments
   pub meta_url : options.meta_url ≡ draft.meta_url
+  pub source_map : options.source_map ≡ draft.source_map
+  pub sources_content : options.sources_content ≡ draft.sources_content
+  pub views : options.views ≡ draft.views
   pub log_level : options.log_level ≡ draft.log_level
   pub color : options.color ≡ draft.color

@@ -42,6 +42,32 @@ pub enum LegalComments {
     None,
 }
 
+/// What source map is written of a bundle (ECMA-426).
+#[derive(Clone, Copy)]
+pub enum SourceMap {
+    None,
+    /// A file beside the bundle's, to which the bundle leads.
+    Linked,
+    /// The end of the bundle.
+    Inline,
+    /// A file beside the bundle's.
+    External,
+}
+
+/// Whether a source map holds the texts of the sources.
+#[derive(Clone, Copy)]
+pub enum SourcesContent {
+    Kept,
+    Dropped,
+}
+
+/// Whether something is to be done.
+#[derive(Clone, Copy, PartialEq, Eq)]
+pub enum Switch {
+    Off,
+    On,
+}
+
 /// The least grave that is told.
 #[derive(Clone, Copy)]
 pub enum LogLevel {
@@ -140,6 +166,59 @@ impl LegalComments {
         match text {
             "inline" => Some(LegalComments::Inline),
             "none" => Some(LegalComments::None),
+            _ => None,
+        }
+    }
+}
+
+impl SourceMap {
+    ghost use Rattle.std.specs.Prelude.{◌≡◌, ◌≢◌, Some, IfSome, IfNone};
+    ghost use Rattle.gutsirava_words.specs.Choice.{source_map_text};
+
+    /// The one with this word, or `None` where there is none.
+    pub fn from_text(text: &str) -> Option<SourceMap>
+        ensures found { IfSome result (λ it. source_map_text it ≡ text.now) }
+        ensures none { IfNone result ((it : SourceMap) → source_map_text it ≢ text.now) }
+    {
+        match text {
+            "none" => Some(SourceMap::None),
+            "linked" => Some(SourceMap::Linked),
+            "inline" => Some(SourceMap::Inline),
+            "external" => Some(SourceMap::External),
+            _ => None,
+        }
+    }
+}
+
+impl SourcesContent {
+    ghost use Rattle.std.specs.Prelude.{◌≡◌, ◌≢◌, Some, IfSome, IfNone};
+    ghost use Rattle.gutsirava_words.specs.Choice.{sources_content_text};
+
+    /// The one with this word, or `None` where there is none.
+    pub fn from_text(text: &str) -> Option<SourcesContent>
+        ensures found { IfSome result (λ it. sources_content_text it ≡ text.now) }
+        ensures none { IfNone result ((it : SourcesContent) → sources_content_text it ≢ text.now) }
+    {
+        match text {
+            "true" => Some(SourcesContent::Kept),
+            "false" => Some(SourcesContent::Dropped),
+            _ => None,
+        }
+    }
+}
+
+impl Switch {
+    ghost use Rattle.std.specs.Prelude.{◌≡◌, ◌≢◌, Some, IfSome, IfNone};
+    ghost use Rattle.gutsirava_words.specs.Choice.{switch_text};
+
+    /// The one with this word, or `None` where there is none.
+    pub fn from_text(text: &str) -> Option<Switch>
+        ensures found { IfSome result (λ it. switch_text it ≡ text.now) }
+        ensures none { IfNone result ((it : Switch) → switch_text it ≢ text.now) }
+    {
+        match text {
+            "false" => Some(Switch::Off),
+            "true" => Some(Switch::On),
             _ => None,
         }
     }

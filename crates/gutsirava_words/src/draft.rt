@@ -1,12 +1,14 @@
 //! Options while words are read.
 
-ghost use Rattle.std.specs.Prelude.{◌≡◌, ◌<◌, ◌⊎◌, ◌++◌, [], ◌∷◌, map, string_bytes, vec_len, IsSome, IsSomeAnd, OnOk, OnErr, IfOk};
-ghost use Rattle.gutsirava_words.specs.Draft.{pair_text, parts_of, texts_of, Sets, AddsEntry, Agrees, IsOneAtMost, IsText, Names, Leads, Holds, Contradicts, IsFresh};
+ghost use Rattle.std.specs.Prelude.{◌≡◌, ◌<◌, ◌⊎◌, ◌++◌, [], ◌∷◌, map, string_bytes, vec_len, IsNone, IsSome, IsSomeAnd, IsTrue, true, false, OnOk, OnErr, IfOk};
+ghost use Rattle.gutsirava_words.specs.Output.{knows_parts, tells_no_parts};
+ghost use Rattle.gutsirava_words.specs.Draft.{has_map_file, pair_text, ViewsContradict, parts_of, texts_of, Sets, AddsEntry, Agrees, IsOneAtMost, IsText, Names, Leads, Holds, Contradicts, IsFresh};
 
 use crate::name::is_variable;
 use crate::{
     CharsetSetting, Color, Destination, EntryPoint, ExternalGlobal, FormatKind, FormatSetting,
-    Iife, Key, LegalComments, LogLevel, Options, Order, Platform, WordsError,
+    Iife, Key, LegalComments, LogLevel, Options, Order, Platform, SourceMap, SourcesContent,
+    Switch, ViewChoices, WordsError,
 };
 use std::alloc::Global;
 
@@ -28,6 +30,9 @@ pub struct Draft {
     pub charset: CharsetSetting,
     pub legal_comments: LegalComments,
     pub meta_url: Option<String>,
+    pub source_map: SourceMap,
+    pub sources_content: SourcesContent,
+    pub views: ViewChoices,
     pub log_level: LogLevel,
     pub color: Color,
 }
@@ -52,6 +57,9 @@ impl Drop for Draft {
             charset: _charset,
             legal_comments: _legal_comments,
             meta_url: _meta_url,
+            source_map: _source_map,
+            sources_content: _sources_content,
+            views: _views,
             log_level: _log_level,
             color: _color,
         } = self;
@@ -80,6 +88,14 @@ impl Draft {
             charset: CharsetSetting::Ascii,
             legal_comments: LegalComments::Inline,
             meta_url: None,
+            source_map: SourceMap::None,
+            sources_content: SourcesContent::Kept,
+            views: ViewChoices {
+                metafile: None,
+                graph: None,
+                analyze: Switch::Off,
+                watch: Switch::Off,
+            },
             log_level: LogLevel::Info,
             color: Color::Auto,
         }
@@ -135,6 +151,22 @@ impl Draft {
                 let comments = LegalComments::from_text(value);
                 choose(key, value, alloc, &mut self.legal_comments, comments)
             }
+            Key::SourceMap => {
+                let map = SourceMap::from_text(value);
+                choose(key, value, alloc, &mut self.source_map, map)
+            }
+            Key::SourcesContent => {
+                let content = SourcesContent::from_text(value);
+                choose(key, value, alloc, &mut self.sources_content, content)
+            }
+            Key::Analyze => {
+                let switch = Switch::from_text(value);
+                choose(key, value, alloc, &mut self.views.analyze, switch)
+            }
+            Key::Watch => {
+                let switch = Switch::from_text(value);
+                choose(key, value, alloc, &mut self.views.watch, switch)
+            }
             Key::LogLevel => choose(
                 key,
                 value,
@@ -157,6 +189,8 @@ impl Draft {
             Key::Outdir => put_text(alloc, &mut self.outdir, value),
             Key::Root => put_text(alloc, &mut self.root, value),
             Key::DefineMeta => put_text(alloc, &mut self.meta_url, value),
+            Key::Metafile => put_text(alloc, &mut self.views.metafile, value),
+            Key::Graph => put_text(alloc, &mut self.views.graph, value),
             Key::GlobalName if is_variable(value) => put_text(alloc, &mut self.global_name, value),
             Key::External if has_one_star(value) => add_text(alloc, &mut self.externals, value),
             Key::Globals => add_globals(alloc, &mut self.globals, value),
@@ -189,9 +223,92 @@ impl Draft {
         if self.entries.len() > 1 && self.outdir.is_none() {
             return Err(WordsError::NoFolder);
         }
+        if self.has_map_file() && !self.has_file() {
+            return Err(WordsError::NoMapFile);
+        }
+        self.check_views()?;
+        self.check_order()?;
         match self.format {
             FormatKind::Iife => Ok(()),
             FormatKind::Esm => self.check_module(),
+        }
+    }
+
+    // Refuses what people cannot look at, or watch.
+    fn check_views(&self) -> Result<(), WordsError>
+        ensures { OnErr result (ViewsContradict self.now) }
+    {
+        if !self.has_file() {
+            if self.views.metafile.is_some() {
+                return Err(WordsError::NoViewFile { key: Key::Metafile });
+            }
+            if self.views.graph.is_some() {
+                return Err(WordsError::NoViewFile { key: Key::Graph });
+            }
+        }
+        match self.views.watch {
+            Switch::On if self.reads_stdin() => Err(WordsError::WatchedStdin),
+            _ => Ok(()),
+        }
+    }
+
+    // Refuses what tells the parts of bundles, where these stand in the order of needs.
+    fn check_order(&self) -> Result<(), WordsError>
+        ensures refused { OnErr result
+            (knows_parts self.now.order self.now.source_map self.now.views ≡ false) }
+        ensures known { OnOk result
+            (IsTrue (knows_parts self.now.order self.now.source_map self.now.views)) }
+    {
+        match self.order {
+            Order::Standard => Ok(()),
+            Order::Needs => self.check_parts(),
+        }
+    }
+
+    // Refuses what tells the parts of bundles.
+    fn check_parts(&self) -> Result<(), WordsError>
+        ensures refused { OnErr result
+            (tells_no_parts self.now.source_map self.now.views ≡ false) }
+        ensures none { OnOk result
+            (tells_no_parts self.now.source_map self.now.views ≡ true) }
+    {
+        match self.source_map {
+            SourceMap::None => {}
+            SourceMap::Linked | SourceMap::Inline | SourceMap::External => {
+                return Err(WordsError::NoParts {
+                    key: Key::SourceMap,
+                });
+            }
+        }
+        if self.views.metafile.is_some() {
+            return Err(WordsError::NoParts { key: Key::Metafile });
+        }
+        match self.views.analyze {
+            Switch::Off => Ok(()),
+            Switch::On => Err(WordsError::NoParts { key: Key::Analyze }),
+        }
+    }
+
+    // Whether a source map is a file.
+    fn has_map_file(&self) -> bool
+        ensures { result ≡ has_map_file self.now }
+    {
+        match self.source_map {
+            SourceMap::Linked | SourceMap::External => true,
+            SourceMap::None | SourceMap::Inline => false,
+        }
+    }
+
+    // Whether bundles go into files.
+    fn has_file(&self) -> bool
+        ensures { result ≡ false → IsNone self.now.outdir }
+    {
+        if self.outdir.is_some() {
+            return true;
+        }
+        match &self.outfile {
+            Some(path) => path.as_str() != "-",
+            None => false,
         }
     }
 
@@ -235,6 +352,9 @@ impl Draft {
             charset,
             legal_comments,
             meta_url,
+            source_map,
+            sources_content,
+            views,
             log_level,
             color,
         } = self;
@@ -251,6 +371,9 @@ impl Draft {
             charset,
             legal_comments,
             meta_url,
+            source_map,
+            sources_content,
+            views,
             log_level,
             color,
         }

@@ -35,6 +35,18 @@ pub enum WordsError {
     TwoOutputs,
     /// There are several bundles, and no folder for them.
     NoFolder,
+    /// A source map goes into a file, and the bundle does not.
+    NoMapFile,
+    /// The file of an option goes beside bundles, and these go into no file.
+    NoViewFile {
+        key: Key,
+    },
+    /// The option tells what the parts of bundles are made for, which is not known in another order.
+    NoParts {
+        key: Key,
+    },
+    /// The standard input is to be watched.
+    WatchedStdin,
     /// An option of scripts, and no script is to be written.
     OfScripts {
         key: Key,
@@ -58,11 +70,15 @@ impl Drop for WordsError {
             WordsError::NoValue { key: _key } => {}
             WordsError::NeedlessValue { name: _name } => {}
             WordsError::OfScripts { key: _key } => {}
+            WordsError::NoViewFile { key: _key } => {}
+            WordsError::NoParts { key: _key } => {}
             WordsError::EmptyWord
             | WordsError::NoEntry
             | WordsError::DoubledStdin
             | WordsError::TwoOutputs
             | WordsError::NoFolder
+            | WordsError::NoMapFile
+            | WordsError::WatchedStdin
             | WordsError::OutOfMemory => {}
         }
     }
@@ -90,6 +106,8 @@ impl WordsError {
             WordsError::DoubledStdin => "the standard input can be read only once",
             WordsError::TwoOutputs => "--outfile and --outdir exclude each other",
             WordsError::NoFolder => "several files need --outdir",
+            WordsError::NoMapFile => "the file of a source map needs --outfile or --outdir",
+            WordsError::WatchedStdin => "--watch needs files, not the standard input",
             _ => "out of memory",
         }
     }
@@ -133,6 +151,10 @@ impl fmt::Display for WordsError {
                 put(f, ": the value is ", key.values(), "")
             }
             WordsError::OfScripts { key } => put(f, key.name(), " needs --format=iife", ""),
+            WordsError::NoViewFile { key } => {
+                put(f, key.name(), " needs --outfile or --outdir", "")
+            }
+            WordsError::NoParts { key } => put(f, key.name(), " needs --order=standard", ""),
             other => f.write_str(other.plain_sentence()),
         }
     }

@@ -19,6 +19,12 @@ Output
       --legal-comments=inline|none
                             keep comments with a licence, or drop them
       --define-meta=TEXT    what import.meta.url becomes; else it stays
+      --sourcemap=none|linked|inline|external
+                            a source map in a file of its own, at the end of
+                            the bundle, or in a file to which nothing leads;
+                            linked where no word is given
+      --sources-content=true|false
+                            whether a source map holds the sources
 
 Modules
       --external=NAME       leave imports of a package, of a path or of what
@@ -31,6 +37,12 @@ Modules
                             in a cycle modules run as the standard has it, or
                             each statement behind what it needs
       --root=FOLDER         refuse to read files outside this folder
+
+Views
+      --metafile=FILE       what was read and written, in esbuild's form
+      --analyze             tell what takes which part of each bundle
+      --graph=FILE          the modules as a picture, as graph.svg
+      --watch               bundle again when a file changes
 
 Report
       --log-level=info|warning|error|silent

@@ -17,6 +17,12 @@ pub enum Key {
     Charset,
     LegalComments,
     DefineMeta,
+    SourceMap,
+    SourcesContent,
+    Metafile,
+    Analyze,
+    Graph,
+    Watch,
     LogLevel,
     Color,
 }
@@ -44,6 +50,12 @@ impl Key {
             Key::Charset => "--charset",
             Key::LegalComments => "--legal-comments",
             Key::DefineMeta => "--define-meta",
+            Key::SourceMap => "--sourcemap",
+            Key::SourcesContent => "--sources-content",
+            Key::Metafile => "--metafile",
+            Key::Analyze => "--analyze",
+            Key::Graph => "--graph",
+            Key::Watch => "--watch",
             Key::LogLevel => "--log-level",
             Key::Color => "--color",
         }
@@ -69,6 +81,12 @@ impl Key {
             "--charset" => Some(Key::Charset),
             "--legal-comments" => Some(Key::LegalComments),
             "--define-meta" => Some(Key::DefineMeta),
+            "--sourcemap" => Some(Key::SourceMap),
+            "--sources-content" => Some(Key::SourcesContent),
+            "--metafile" => Some(Key::Metafile),
+            "--analyze" => Some(Key::Analyze),
+            "--graph" => Some(Key::Graph),
+            "--watch" => Some(Key::Watch),
             "--log-level" => Some(Key::LogLevel),
             "--color" => Some(Key::Color),
             _ => None,
@@ -85,10 +103,19 @@ impl Key {
         )
     }
 
+    /// The value that the option has where none is joined to it, if it needs none.
+    pub fn plain_value(self) -> Option<&'static str> {
+        match self {
+            Key::SourceMap => Some("linked"),
+            Key::Analyze | Key::Watch => Some("true"),
+            _ => None,
+        }
+    }
+
     /// What the option takes, in words.
     pub fn values(self) -> &'static str {
         match self {
-            Key::Outfile => "a file",
+            Key::Outfile | Key::Metafile => "a file",
             Key::Outdir | Key::Root => "a folder",
             Key::Format => "esm or iife",
             Key::GlobalName => "a variable of JavaScript, as App or App.core",
@@ -101,6 +128,9 @@ impl Key {
             Key::Charset => "ascii or utf8",
             Key::LegalComments => "inline or none",
             Key::DefineMeta => "a text",
+            Key::SourceMap => "none, linked, inline or external",
+            Key::Graph => "a file, as graph.svg",
+            Key::SourcesContent | Key::Analyze | Key::Watch => "true or false",
             Key::LogLevel => "info, warning, error or silent",
             Key::Color => "auto, always or never",
         }

@@ -12,9 +12,14 @@ mod nearest;
 mod options;
 mod word;
 
-pub use choice::{CharsetSetting, Color, FormatKind, LegalComments, LogLevel, Order, Platform};
+pub use choice::{
+    CharsetSetting, Color, FormatKind, LegalComments, LogLevel, Order, Platform, SourceMap,
+    SourcesContent, Switch,
+};
 pub use command::Command;
 pub use error::WordsError;
 pub use help::{HELP, VERSION};
 pub use key::Key;
-pub use options::{Destination, EntryPoint, ExternalGlobal, FormatSetting, Iife, Options};
+pub use options::{
+    Destination, EntryPoint, ExternalGlobal, FormatSetting, Iife, Options, ViewChoices,
+};

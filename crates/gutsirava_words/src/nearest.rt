@@ -4,7 +4,7 @@ use std::alloc::{AllocError, Global};
 use strsim::osa_distance;
 
 /// All options.
-const NAMES: [&str; 19] = [
+const NAMES: [&str; 25] = [
     "--outfile",
     "--outdir",
     "--format",
@@ -19,6 +19,12 @@ const NAMES: [&str; 19] = [
     "--charset",
     "--legal-comments",
     "--define-meta",
+    "--sourcemap",
+    "--sources-content",
+    "--metafile",
+    "--analyze",
+    "--graph",
+    "--watch",
     "--log-level",
     "--color",
     "--help",

@@ -1,9 +1,12 @@
 //! What a bundle is made of, and how.
 
 ghost use Rattle.std.specs.Prelude.{◌<◌, ◌||◌, nat_le, vec_len, IsTrue};
-ghost use Rattle.gutsirava_words.specs.Output.{is_folder};
+ghost use Rattle.gutsirava_words.specs.Output.{is_folder, knows_parts};
 
-use crate::{CharsetSetting, Color, LegalComments, LogLevel, Order, Platform};
+use crate::{
+    CharsetSetting, Color, LegalComments, LogLevel, Order, Platform, SourceMap, SourcesContent,
+    Switch,
+};
 
 /// A module that a bundle begins with.
 #[derive(Drop)]
@@ -53,7 +56,21 @@ pub struct ExternalGlobal {
     pub name: String,
 }
 
-/// What is bundled, and how. Texts are not empty.
+/// What people look at beside bundles, and whether they are made again. Texts are not empty.
+#[derive(Drop)]
+pub struct ViewChoices {
+    /// The file of the metafile.
+    pub metafile: Option<String>,
+    /// The file of the picture of the modules.
+    pub graph: Option<String>,
+    /// Whether it is told what takes which part of a bundle.
+    pub analyze: Switch,
+    /// Whether bundles are made again when a file changes.
+    pub watch: Switch,
+}
+
+/// What is bundled, and how. Texts are not empty. What the parts of bundles are made for is told only where they stand in
+/// the order of ECMA-262.
 #[derive(Drop)]
 pub struct Options {
     /// The modules that bundles begin with, in their order: one at least, and the standard input at most once.
@@ -75,8 +92,14 @@ pub struct Options {
     pub legal_comments: LegalComments,
     /// What `import.meta.url` becomes.
     pub meta_url: Option<String>,
+    /// What source map is written of each bundle. One that goes to the standard output has none beside it.
+    pub source_map: SourceMap,
+    pub sources_content: SourcesContent,
+    /// What people look at. Bundles that go to the standard output have no files beside them.
+    pub views: ViewChoices,
     pub log_level: LogLevel,
     pub color: Color,
     pub ghost some: { 0 < vec_len entries },
     pub ghost one_unless_folder: { IsTrue (nat_le (vec_len entries) 1 || is_folder output) },
+    pub ghost parts_known: { IsTrue (knows_parts order source_map views) },
 }

@@ -44,7 +44,7 @@ impl Word<'_> {
             "-h" | "--help" => Word::NeedlessValue("--help"),
             "--version" => Word::NeedlessValue("--version"),
             _ => match Key::from_name(name) {
-                Some(key) => Word::Value(key, value),
+                Some(key) => Word::Value(key, value.or(key.plain_value())),
                 None => Word::with_colon(text).unwrap_or(Word::Unknown(name)),
             },
         }

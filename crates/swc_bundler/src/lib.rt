@@ -62,5 +62,5 @@ pub mod merge {
 /// The bundler, its settings and what it gives.
 pub mod bundler {
     pub use bundle_tree_names::{Config, ModuleType};
-    pub use bundler_call::{Bundle, BundleKind, Bundler, OrderedConfig};
+    pub use bundler_call::{Bundle, BundleCauses, BundleKind, Bundler, ItemCause, OrderedConfig};
 }

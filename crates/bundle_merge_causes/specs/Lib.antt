@@ -1,0 +1,4 @@
+pub mod Shape
+pub mod Told
+pub mod Planned
+pub mod Standing

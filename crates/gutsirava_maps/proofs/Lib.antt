@@ -1,0 +1,4 @@
+pub mod MappingLemmas
+pub mod PlaceLemmas
+pub mod TextLemmas
+pub mod VlqLemmas

@@ -1,0 +1,5 @@
+pub mod Comment
+pub mod Vlq
+pub mod Places
+pub mod Mapping
+pub mod Text

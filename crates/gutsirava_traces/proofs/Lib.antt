@@ -1,0 +1,4 @@
+pub mod EndLemmas
+pub mod StatementLemmas
+pub mod ToldLemmas
+pub mod WalkLemmas

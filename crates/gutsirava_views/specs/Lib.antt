@@ -1,0 +1,4 @@
+pub mod Boxes
+pub mod Json
+pub mod Layers
+pub mod Xml
