@@ -47,6 +47,26 @@ const groups = [
       { here: ['file', '/bundling/node_modules/browser-map/browser.js', ''], judge: ['file', '/bundling/node_modules/browser-map/lib/b.js', ''] },
     ]),
   ),
+  // Where the file that `main` names is not there, the index takes its place before `module`, as in Node.
+  Object.fromEntries(
+    ['bundle import', 'bundle require', 'browser require'].map((way) => [
+      `${way} entry.js fields-main`,
+      {
+        here: ['file', '/bundling/node_modules/fields-main/index.js', ''],
+        judge: ['file', '/bundling/node_modules/fields-main/module.mjs', ''],
+      },
+    ]),
+  ),
+  // A package takes the place of a main file too; esbuild 0.17 takes the index then.
+  Object.fromEntries(
+    ['browser import', 'browser require'].map((way) => [
+      `${way} entry.js browser-package`,
+      {
+        here: ['file', '/bundling/node_modules/plain/index.js', ''],
+        judge: ['file', '/bundling/node_modules/browser-package/index.js', ''],
+      },
+    ]),
+  ),
 ];
 
 export const differences = Object.assign({}, ...groups);

@@ -138,20 +138,29 @@ impl<'r, 'a> Checker<'r, 'a> {
         self.enter(at, rec.start, context, Undo::Nothing)
     }
 
-    // The names that the parameters in these records bind, from the last to the first.
+    // The names that the parameters in these records bind, from the last to the first. One alone is not looked up.
     fn names(&mut self, function: usize, start: usize, end: usize) -> Result<(), EarlyError> {
         let mut end = end;
+        let mut later: Option<Rec> = None;
+        let mut is_alone = true;
         for _ in start..end {
             if end <= start {
                 break;
             }
             let rec = record_at(self.records, end - 1);
             if bound_of(rec.kind) == Bound::Name {
-                self.parameter(function, rec)?;
+                if let Some(later) = later {
+                    self.parameter(function, later)?;
+                    is_alone = false;
+                }
+                later = Some(rec);
             }
             end = before(self.records, end - 1);
         }
-        Ok(())
+        match later {
+            Some(first) if !is_alone => self.parameter(function, first),
+            _ => Ok(()),
+        }
     }
 
     // A name that a parameter of this function binds.

@@ -130,11 +130,15 @@ fn named(machine: &mut Machine<'_>, place: NodeStart) -> Result<(), Stop> {
             let op = machine.reference_op(tok, place)?;
             machine.reader.rename(Kind::Ident);
             machine.reader.mark(op);
-            let equals = machine.reader.place().from;
             machine.reader.advance();
             machine.both(
                 State::Assignment { no_in: false },
-                State::Cover { equals, place },
+                State::Node {
+                    kind: Kind::Cover,
+                    op: 0,
+                    field: 1,
+                    place,
+                },
             )
         }
         Tok::Comma | Tok::CloseBrace => {
@@ -145,12 +149,6 @@ fn named(machine: &mut Machine<'_>, place: NodeStart) -> Result<(), Stop> {
         }
         _ => property_key(machine, Signature::plain(), place),
     }
-}
-
-/// Behind the value of a property that only a pattern may hold.
-pub fn cover(machine: &mut Machine<'_>, equals: u32, place: NodeStart) -> Result<(), Stop> {
-    machine.reader.field(1);
-    machine.reader.node_with(Kind::Cover, 0, equals, place)
 }
 
 /// Behind the expression of a computed key.

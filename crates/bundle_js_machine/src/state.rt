@@ -252,10 +252,6 @@ pub enum State {
     Object(NodeStart),
     ObjectNext(NodeStart),
     KeyEnd(NodeStart),
-    Cover {
-        equals: u32,
-        place: NodeStart,
-    },
     PropertyKey {
         signature: Signature,
         place: NodeStart,

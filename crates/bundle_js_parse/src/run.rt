@@ -57,10 +57,11 @@ fn start<'a>(alloc: Global, text: &'a str, goal: Goal) -> Result<Machine<'a>, St
 }
 
 // Where a property stands in an expression that only a pattern may hold: the byte of its equals sign.
-fn cover(records: &[Rec]) -> Option<u32> {
-    for rec in records {
+fn cover(reader: &Reader<'_>) -> Option<u32> {
+    for rec in reader.records.as_slice() {
         if rec.kind == Kind::Cover {
-            return Some(rec.text);
+            let key = reader.at(rec.start as usize);
+            return Some(reader.lexer.token_behind(key.to).from);
         }
     }
     None
@@ -80,6 +81,9 @@ pub fn parse(alloc: Global, text: &str, goal: Goal) -> Result<Parsed, (Stop, u32
         let (stop, from) = placed(&machine, stop);
         return Err((stop, within(text, from)));
     }
+    if let Some(from) = cover(&machine.reader) {
+        return Err((Stop::Cover, within(text, from)));
+    }
     let Machine { reader, .. } = machine;
     let Reader {
         records,
@@ -87,14 +91,11 @@ pub fn parse(alloc: Global, text: &str, goal: Goal) -> Result<Parsed, (Stop, u32
         comments,
         ..
     } = reader;
-    match cover(records.as_slice()) {
-        Some(from) => Err((Stop::Cover, within(text, from))),
-        None => Ok(Parsed {
-            records,
-            store,
-            comments,
-        }),
-    }
+    Ok(Parsed {
+        records,
+        store,
+        comments,
+    })
 }
 
 // Why reading stopped, and where what is refused begins: where the reader says, else at the token. Behind an

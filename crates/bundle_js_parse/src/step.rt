@@ -107,7 +107,6 @@ fn step_literal(machine: &mut Machine<'_>, state: State) -> Result<(), Stop> {
         State::Object(place) => property::object(machine, place),
         State::ObjectNext(place) => property::object_next(machine, place),
         State::KeyEnd(place) => property::key_end(machine, place),
-        State::Cover { equals, place } => property::cover(machine, equals, place),
         State::PropertyKey { signature, place } => property::property_key(
             machine, signature, place,
         ),

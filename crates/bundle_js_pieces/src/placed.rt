@@ -1,15 +1,17 @@
 //! The list of pieces, each node around what lies in it.
 
-ghost use Rattle.std.specs.Prelude.{◌≡◌, ◌<◌, ◌++◌, ◌∷◌, [], ℕ, suc, Some, IfOk, IfSome, OnOk, vec_len};
-ghost use Rattle.bundle_js_pieces.specs.Brackets.{after, Leaves, IsBracketed};
+ghost use Rattle.std.specs.Prelude.{◌≡◌, ◌++◌, ◌∷◌, [], ℕ, suc, ◌<◌, Some, IfOk, OnOk, vec_len, vec_capacity};
+ghost use Rattle.std.specs.Bool.{OnFalse};
+ghost use Rattle.bundle_js_pieces.specs.Brackets.{behind, Opens, IsBracketed};
 
 use crate::node::{leaf_of, node_of};
 use crate::role::{ident_in, names_in};
 use crate::texts::{PieceError, RecordTexts};
 use bundle_js_record::kind::{Kind, is_leaf};
-use bundle_js_record::record::Rec;
+use bundle_js_record::record::{Rec, record_at};
 use bundle_syntax::{ExportMetadata, Node, Piece, Role};
 use std::alloc::{AllocError, Global};
+use std::mem;
 
 /// The list of a tree, and beside each piece its place in the source: the byte at which it begins, for the end
 /// of a node the byte behind it. `depth` is how many nodes lie in each other at most, and `deepest` the byte at
@@ -23,115 +25,153 @@ pub struct Placed<'a> {
     ghost beside: { vec_len places ≡ vec_len pieces },
 }
 
-// A node whose end stands in the list and whose begin does not yet.
+// A node that is open.
 #[derive(Clone, Copy)]
-struct Ended {
+struct BegunNode {
     kind: Kind,
-    op: u8,
-    field: u8,
-    start: u32,
-    from: u32,
     // What the names of patterns in it are.
     names: Role,
 }
 
 // What begins a node.
-fn begin_of<'a>(node: Ended, notes: &'a ExportMetadata) -> Piece<'a>
-    ensures { (n : ℕ) → after (Some (suc n)) result ≡ Some n }
+#[inline]
+fn begin_of<'a>(rec: Rec, notes: &'a ExportMetadata) -> Piece<'a>
+    ensures { (n : ℕ) → behind (Some n) result ≡ Some (suc n) }
 {
-    let field = node.field;
-    let node = node_of(node.kind, node.op, notes);
+    let field = rec.field;
+    let node = node_of(rec.kind, rec.op, notes);
     Piece::Open { field, node }
 }
 
+// What the names of patterns in a record are, by the node around it.
+#[inline]
+fn names_of(nodes: &[BegunNode], rec: Rec) -> Role {
+    match nodes.last() {
+        Some(node) => names_in(node.kind, rec.field, node.names),
+        None => Role::Reference,
+    }
+}
+
+// What an identifier is, by the node around it.
+#[inline]
+fn ident_of(nodes: &[BegunNode], rec: Rec) -> Role {
+    match nodes.last() {
+        Some(node) => ident_in(node.kind, rec.field, node.names),
+        None => Role::Reference,
+    }
+}
+
+// Whether the record at this place is that of a list of exports that are another module's, which stands right before
+// it.
+fn exports_another(records: &[Rec], at: usize, rec: Rec) -> bool {
+    rec.kind == Kind::NamedExport
+        && (rec.start as usize) < at
+        && record_at(records, at.saturating_sub(1)).field == 1
+}
+
 impl<'a> Placed<'a> {
+    // Whether there is no room for one more piece: the records are those of another text.
+    #[inline]
+    fn is_full(&self) -> bool
+        ensures pieces { OnFalse result (vec_len self.now.pieces < vec_capacity self.now.pieces) }
+        ensures places { OnFalse result (vec_len self.now.places < vec_capacity self.now.places) }
+    {
+        self.pieces.len() >= self.pieces.capacity() || self.places.len() >= self.places.capacity()
+    }
+
     // Adds a piece and its place.
-    fn add(&mut self, piece: Piece<'a>, place: u32) -> Result<(), AllocError>
+    #[inline]
+    fn add(&mut self, piece: Piece<'a>, place: u32) -> Result<(), PieceError>
         ensures { OnOk result (self.new.pieces.items ≡ self.old.pieces.items ++ (piece.entry ∷ [])) }
     {
-        self.places.push(place)?;
-        match self.pieces.push(piece) {
-            Ok(()) => Ok(()),
-            Err(_) => {
-                let _ = self.places.pop();
-                Err(AllocError)
-            }
+        if self.is_full() {
+            return Err(PieceError::Text);
         }
+        self.places.push_reserved(place);
+        self.pieces.push_reserved(piece);
+        Ok(())
     }
 
-    // Adds the begin of each node that begins at this record or behind it, from the inside out.
-    fn begin_all(
+    // Adds the begin of the node whose record stands at this place.
+    fn open(
         &mut self,
-        nodes: &mut Vec<Ended>,
+        nodes: &mut Vec<BegunNode>,
+        records: &[Rec],
         at: usize,
         notes: &'a ExportMetadata,
-    ) -> Result<(), AllocError>
-        requires { Leaves (vec_len nodes.old) self.old.pieces.items }
-        ensures { OnOk result (Leaves (vec_len nodes.new) self.new.pieces.items) }
+    ) -> Result<(), PieceError>
+        requires { Opens (vec_len nodes.old) self.old.pieces.items }
+        ensures { OnOk result (Opens (vec_len nodes.new) self.new.pieces.items) }
     {
-        while let Some(node) = last_behind(nodes, at) {
-            let _ = nodes.pop();
-            self.add(begin_of(node, notes), node.from)?;
+        let rec = record_at(records, at);
+        if rec.kind == Kind::Gone {
+            return Ok(());
+        }
+        let names = names_of(nodes.as_slice(), rec);
+        self.add(begin_of(rec, notes), rec.from)?;
+        nodes.push(BegunNode {
+            kind: rec.kind,
+            names: if exports_another(records, at, rec) {
+                Role::Word
+            } else {
+                names
+            },
+        })?;
+        if nodes.len() >= self.depth {
+            self.depth = nodes.len();
+            self.deepest = rec.from;
         }
         Ok(())
     }
 
-    // Adds the begin of each node that is left.
-    fn begin_rest(
+    // Adds the begins of the nodes around the record at this place that begin with it, from the outside in.
+    fn open_all(
         &mut self,
-        mut nodes: Vec<Ended>,
+        nodes: &mut Vec<BegunNode>,
+        records: &[Rec],
+        links: &[u32],
+        at: usize,
         notes: &'a ExportMetadata,
-    ) -> Result<(), AllocError>
-        requires { Leaves (vec_len nodes) self.old.pieces.items }
-        ensures { OnOk result (Leaves 0 self.new.pieces.items) }
+    ) -> Result<(), PieceError>
+        requires { Opens (vec_len nodes.old) self.old.pieces.items }
+        ensures { OnOk result (Opens (vec_len nodes.new) self.new.pieces.items) }
     {
-        while let Some(node) = nodes.pop() {
-            self.add(begin_of(node, notes), node.from)?;
+        let mut next = link_at(links, at);
+        for _ in at..records.len() {
+            if next <= at {
+                return Ok(());
+            }
+            self.open(nodes, records, next, notes)?;
+            next = link_at(links, next);
         }
         Ok(())
     }
-}
 
-// The innermost node, where it begins at this record or behind it.
-fn last_behind(nodes: &Vec<Ended>, at: usize) -> Option<Ended>
-    ensures { IfSome result (λ _. 0 < vec_len nodes.now) }
-{
-    match nodes.as_slice().last() {
-        Some(node) if node.start as usize >= at => Some(*node),
-        _ => None,
-    }
-}
-
-// What the names of patterns in a record are, and what it is if it is an identifier, by the node around it.
-fn roles(nodes: &mut Vec<Ended>, rec: Rec) -> (Role, Role)
-    ensures { vec_len nodes.new ≡ vec_len nodes.old }
-{
-    match nodes.as_mut_slice().last_mut() {
-        Some(node) => {
-            if node.kind == Kind::NamedExport && rec.field == 1 {
-                node.names = Role::Word;
-            }
-            (
-                names_in(node.kind, rec.field, node.names),
-                ident_in(node.kind, rec.field, node.names),
-            )
+    // Adds the end of the innermost node that is open, which is that of this record.
+    #[inline]
+    fn close(&mut self, nodes: &mut Vec<BegunNode>, rec: Rec) -> Result<(), PieceError>
+        requires { Opens (vec_len nodes.old) self.old.pieces.items }
+        ensures { OnOk result (Opens (vec_len nodes.new) self.new.pieces.items) }
+    {
+        match nodes.pop() {
+            Some(_) => self.add(Piece::Close, rec.to),
+            None => Err(PieceError::Text),
         }
-        None => (Role::Reference, Role::Reference),
     }
 }
 
 impl<'a> Placed<'a> {
     // Adds a node that no other lies in.
-    fn add_node(&mut self, field: u8, node: Node<'a>, rec: Rec) -> Result<(), AllocError>
-        ensures { (n : ℕ) → Leaves n self.old.pieces.items → OnOk result (Leaves n self.new.pieces.items) }
+    fn add_node(&mut self, field: u8, node: Node<'a>, rec: Rec) -> Result<(), PieceError>
+        ensures { (n : ℕ) → Opens n self.old.pieces.items → OnOk result (Opens n self.new.pieces.items) }
     {
-        self.add(Piece::Close, rec.to)?;
-        self.add(Piece::Open { field, node }, rec.from)
+        self.add(Piece::Open { field, node }, rec.from)?;
+        self.add(Piece::Close, rec.to)
     }
 
     // Adds an identifier.
-    fn add_ident(&mut self, field: u8, sym: &'a str, role: Role, rec: Rec) -> Result<(), AllocError>
-        ensures { (n : ℕ) → Leaves n self.old.pieces.items → OnOk result (Leaves n self.new.pieces.items) }
+    fn add_ident(&mut self, field: u8, sym: &'a str, role: Role, rec: Rec) -> Result<(), PieceError>
+        ensures { (n : ℕ) → Opens n self.old.pieces.items → OnOk result (Opens n self.new.pieces.items) }
     {
         self.add(
             Piece::Ident {
@@ -151,13 +191,13 @@ impl<'a> Placed<'a> {
         sym: &'a str,
         role: Role,
         rec: Rec,
-    ) -> Result<(), AllocError>
-        ensures { (n : ℕ) → Leaves n self.old.pieces.items → OnOk result (Leaves n self.new.pieces.items) }
+    ) -> Result<(), PieceError>
+        ensures { (n : ℕ) → Opens n self.old.pieces.items → OnOk result (Opens n self.new.pieces.items) }
     {
-        self.add(Piece::Close, rec.to)?;
-        self.add_ident(0, sym, role, rec)?;
         let node = Node::BindingIdent;
-        self.add(Piece::Open { field, node }, rec.from)
+        self.add(Piece::Open { field, node }, rec.from)?;
+        self.add_ident(0, sym, role, rec)?;
+        self.add(Piece::Close, rec.to)
     }
 
     // Adds a property of a pattern that is an identifier alone.
@@ -167,79 +207,93 @@ impl<'a> Placed<'a> {
         sym: &'a str,
         role: Role,
         rec: Rec,
-    ) -> Result<(), AllocError>
-        ensures { (n : ℕ) → Leaves n self.old.pieces.items → OnOk result (Leaves n self.new.pieces.items) }
+    ) -> Result<(), PieceError>
+        ensures { (n : ℕ) → Opens n self.old.pieces.items → OnOk result (Opens n self.new.pieces.items) }
     {
-        self.add(Piece::Close, rec.to)?;
-        self.add_pattern(0, sym, role, rec)?;
         let node = Node::AssignPatProp;
-        self.add(Piece::Open { field, node }, rec.from)
+        self.add(Piece::Open { field, node }, rec.from)?;
+        self.add_pattern(0, sym, role, rec)?;
+        self.add(Piece::Close, rec.to)
     }
 
     // Adds what no other record lies in.
     fn add_leaf(
         &mut self,
         texts: RecordTexts<'a>,
+        nodes: &[BegunNode],
         rec: Rec,
-        names: Role,
-        ident: Role,
     ) -> Result<(), PieceError>
-        ensures { (n : ℕ) → Leaves n self.old.pieces.items → OnOk result (Leaves n self.new.pieces.items) }
+        ensures { (n : ℕ) → Opens n self.old.pieces.items → OnOk result (Opens n self.new.pieces.items) }
     {
         let field = rec.field;
         match rec.kind {
-            Kind::Hole => self.add(Piece::Hole { field }, rec.from)?,
-            Kind::Ident | Kind::Shorthand => self.add_ident(field, texts.value(rec)?, ident, rec)?,
-            Kind::BindingIdent => self.add_pattern(field, texts.value(rec)?, names, rec)?,
-            Kind::ShorthandPat => self.add_property(field, texts.value(rec)?, names, rec)?,
-            _ => {
-                let node = leaf_of(texts, rec)?;
-                self.add_node(field, node, rec)?;
+            Kind::Hole => self.add(Piece::Hole { field }, rec.from),
+            Kind::Ident | Kind::Shorthand => {
+                self.add_ident(field, texts.value(rec)?, ident_of(nodes, rec), rec)
             }
+            Kind::BindingIdent => {
+                self.add_pattern(field, texts.value(rec)?, names_of(nodes, rec), rec)
+            }
+            Kind::ShorthandPat => {
+                self.add_property(field, texts.value(rec)?, names_of(nodes, rec), rec)
+            }
+            _ => self.add_node(field, leaf_of(texts, rec)?, rec),
         }
-        Ok(())
     }
 
-    // Adds what a record is from behind: a leaf, or the end of a node, which waits for its begin then.
+    // Adds what the record at this place is: a leaf, or the end of a node; and before that what begins here.
+    #[inline]
     fn add_record(
         &mut self,
         texts: RecordTexts<'a>,
-        nodes: &mut Vec<Ended>,
-        rec: Rec,
+        nodes: &mut Vec<BegunNode>,
+        records: &[Rec],
+        links: &[u32],
+        at: usize,
     ) -> Result<(), PieceError>
-        requires { Leaves (vec_len nodes.old) self.old.pieces.items }
-        ensures { OnOk result (Leaves (vec_len nodes.new) self.new.pieces.items) }
+        requires { Opens (vec_len nodes.old) self.old.pieces.items }
+        ensures { OnOk result (Opens (vec_len nodes.new) self.new.pieces.items) }
     {
+        let rec = record_at(records, at);
+        let is_first = rec.start as usize >= at;
+        if is_first {
+            self.open_all(nodes, records, links, at, texts.notes)?;
+        }
         if rec.kind == Kind::Gone {
             return Ok(());
         }
-        let (names, ident) = roles(nodes, rec);
         if is_leaf(rec.kind) {
-            return self.add_leaf(texts, rec, names, ident);
+            return self.add_leaf(texts, nodes.as_slice(), rec);
         }
-        let Rec {
-            kind,
-            op,
-            field,
-            start,
-            from,
-            ..
-        } = rec;
-        self.add(Piece::Close, rec.to)?;
-        nodes.push(Ended {
-            kind,
-            op,
-            field,
-            start,
-            from,
-            names,
-        })?;
-        if nodes.len() > self.depth {
-            self.depth = nodes.len();
-            self.deepest = from;
+        if is_first {
+            self.open(nodes, records, at, texts.notes)?;
         }
-        Ok(())
+        self.close(nodes, rec)
     }
+}
+
+// The place that stands at a place, itself where none does.
+#[inline]
+fn link_at(links: &[u32], at: usize) -> usize {
+    match links.get(at) {
+        Some(link) => *link as usize,
+        None => at,
+    }
+}
+
+// Which nodes begin with a record that nothing lies in: at its place the place of the outermost of them, and at the place
+// of each of them that of the next inner one, or its own.
+fn links_of(alloc: Global, records: &[Rec]) -> Result<Vec<u32>, AllocError> {
+    let mut links: Vec<u32> = Vec::with_capacity(alloc, records.len())?;
+    for rec in records {
+        let at = u32::try_from(links.len()).unwrap_or(u32::MAX);
+        let inner = match links.as_mut_slice().get_mut(rec.start as usize) {
+            Some(link) => mem::replace(link, at),
+            None => at,
+        };
+        links.push(inner)?;
+    }
+    Ok(links)
 }
 
 // How many pieces these records give.
@@ -257,32 +311,8 @@ fn count_of(records: &[Rec]) -> usize {
     count
 }
 
-// The list of the records from its last piece to its first.
-fn placed_backward<'a>(
-    alloc: Global,
-    texts: RecordTexts<'a>,
-    records: &[Rec],
-) -> Result<Placed<'a>, PieceError>
-    ensures { IfOk result (λ list. Leaves 0 list.pieces.items) }
-{
-    let mut nodes: Vec<Ended> = Vec::new(alloc);
-    let count = count_of(records);
-    let mut list = Placed {
-        pieces: Vec::with_capacity(alloc, count)?,
-        places: Vec::with_capacity(alloc, count)?,
-        depth: 0,
-        deepest: 0,
-    };
-    for (before, rec) in records.iter().enumerate().rev() {
-        list.begin_all(&mut nodes, before + 1, texts.notes)?;
-        list.add_record(texts, &mut nodes, *rec)?;
-    }
-    list.begin_rest(nodes, texts.notes)?;
-    Ok(list)
-}
-
 /// The list of the tree that the records are of, in the order of its fields. Each node of it is bracketed, and
-/// lies in the one around it. Refused only for memory, and where a record has no text.
+/// lies in the one around it. Refused only for memory, and where the records are those of another text.
 pub fn pieces<'a>(
     alloc: Global,
     texts: RecordTexts<'a>,
@@ -290,8 +320,21 @@ pub fn pieces<'a>(
 ) -> Result<Placed<'a>, PieceError>
     ensures { IfOk result (λ list. IsBracketed list.pieces.items) }
 {
-    let mut list = placed_backward(alloc, texts, records)?;
-    list.pieces.as_mut_slice().reverse();
-    list.places.as_mut_slice().reverse();
-    Ok(list)
+    let links = links_of(alloc, records)?;
+    let mut nodes: Vec<BegunNode> = Vec::new(alloc);
+    let count = count_of(records);
+    let mut list = Placed {
+        pieces: Vec::with_capacity(alloc, count)?,
+        places: Vec::with_capacity(alloc, count)?,
+        depth: 0,
+        deepest: 0,
+    };
+    for at in 0..records.len() {
+        list.add_record(texts, &mut nodes, records, links.as_slice(), at)?;
+    }
+    if nodes.is_empty() {
+        Ok(list)
+    } else {
+        Err(PieceError::Text)
+    }
 }

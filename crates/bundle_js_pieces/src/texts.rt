@@ -40,9 +40,9 @@ impl<'a> RecordTexts<'a> {
     /// The text that a record stands for: a name with no escape in it and no `#`, the value of a string, the
     /// raw text of a part of a template.
     pub fn value(&self, rec: Rec) -> Result<&'a str, PieceError> {
-        if rec.text != 0 {
+        if rec.escaped {
             let store: &'a Store = self.store;
-            return store.text(rec.text).ok_or(PieceError::Text);
+            return store.text(rec.from).ok_or(PieceError::Text);
         }
         let before = match rec.kind {
             Kind::Str | Kind::PrivateName => 1,

@@ -1,1 +1,5 @@
 pub mod Levels
+pub mod Literal
+pub mod Openings
+pub mod Printed
+pub mod Tokens

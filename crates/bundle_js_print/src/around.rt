@@ -1,6 +1,7 @@
 //! What is written where a node begins and where it ends.
 
-ghost use Rattle.std.specs.Prelude.{◌≤◌, string_len};
+ghost use Rattle.std.specs.Prelude.{◌≤◌, OnOk, string_bytes, string_len};
+ghost use Rattle.bundle_js_print.specs.Openings.{PutsOpening};
 
 use crate::context::is_for_head;
 use crate::frame::{Last, PrintFrame, Wrap};
@@ -18,6 +19,8 @@ impl<'p, 'a> Printer<'p, 'a> {
         opening: Opening<'a>,
     ) -> Result<(), AllocError>
         ensures grows { string_len self.old.text ≤ string_len self.new.text }
+        ensures puts { OnOk result (PutsOpening self.old.charset opening.entry
+            (string_bytes self.old.text) (string_bytes self.new.text)) }
     {
         match opening {
             Opening::Text(text) => self.text.push_str(text),

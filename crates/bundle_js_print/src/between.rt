@@ -1,6 +1,9 @@
 //! What is written before a child.
 
-ghost use Rattle.std.specs.Prelude.{◌≤◌, string_len};
+ghost use Rattle.std.specs.Prelude.{◌≡◌, ◌≤◌, false, string_len, IfSome};
+ghost use Rattle.bundle_syntax.specs.Item.{head_of};
+ghost use Rattle.bundle_js_print.specs.Printed.{IsApart, is_sign};
+ghost use Rattle.bundle_js_print.specs.Tokens.{is_whole};
 
 use crate::context::{Link, PrintContext};
 use crate::frame::{Arrival, Last, PrintFrame, Wrap};
@@ -284,15 +287,10 @@ impl<'p, 'a> Printer<'p, 'a> {
 
     // Whether a number stands at this place to which a dot would belong.
     fn is_of_digits(&self, at: usize) -> bool {
-        let Some(Node::Number { raw }) = self.node_at(at) else {
-            return false;
-        };
-        for byte in raw.as_bytes() {
-            if !byte.is_ascii_digit() && *byte != b'_' {
-                return false;
-            }
+        match self.node_at(at) {
+            Some(Node::Number { raw }) => is_whole(raw),
+            _ => false,
         }
-        true
     }
 
     // Writes the text of a template before an expression.
@@ -329,31 +327,44 @@ impl<'p, 'a> Printer<'p, 'a> {
     }
 }
 
+// Whether a dot behind a number would belong to it.
+fn is_whole(raw: &str) -> bool
+    ensures { result ≡ is_whole raw.now }
+{
+    raw.as_bytes()
+        .iter()
+        .all(|byte| byte.is_ascii_digit() || *byte == b'_')
+}
+
 // Whether an operand would grow together with the operator before it.
-fn is_kept_from(op: UnaryOp, child: Option<&Node>) -> bool {
+fn is_kept_from(op: UnaryOp, child: Option<&Node>) -> bool
+    ensures { result ≡ false → IfSome child.entry (λ it. IsApart op (head_of it.now)) }
+{
+    match child {
+        Some(node) => is_kept_apart(op, node),
+        None => matches!(op, UnaryOp::TypeOf | UnaryOp::Void | UnaryOp::Delete),
+    }
+}
+
+fn is_kept_apart(op: UnaryOp, operand: &Node) -> bool
+    ensures { result ≡ false → IsApart op (head_of operand.now) }
+{
     match op {
         UnaryOp::TypeOf | UnaryOp::Void | UnaryOp::Delete => true,
-        UnaryOp::Minus => matches!(
-            child,
-            Some(
-                Node::UnaryExpr {
-                    op: UnaryOp::Minus,
-                } | Node::UpdateExpr {
-                    op: UpdateOp::MinusMinus,
-                    prefix: true,
-                }
-            )
-        ),
-        UnaryOp::Plus => matches!(
-            child,
-            Some(
-                Node::UnaryExpr { op: UnaryOp::Plus }
-                    | Node::UpdateExpr {
-                        op: UpdateOp::PlusPlus,
-                        prefix: true,
-                    }
-            )
-        ),
+        UnaryOp::Minus => is_sign(operand, true),
+        UnaryOp::Plus => is_sign(operand, false),
         UnaryOp::Bang | UnaryOp::Tilde => false,
+    }
+}
+
+// Whether a node begins with a minus or two, or else with a plus or two.
+fn is_sign(node: &Node, is_minus: bool) -> bool
+    ensures { result ≡ is_sign (head_of node.now) is_minus }
+{
+    match node {
+        Node::UnaryExpr { op: UnaryOp::Minus } => is_minus,
+        Node::UnaryExpr { op: UnaryOp::Plus } => !is_minus,
+        Node::UpdateExpr { op, prefix: true } => { matches!(op, UpdateOp::MinusMinus) == is_minus }
+        _ => false,
     }
 }

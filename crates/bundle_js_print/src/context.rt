@@ -1,12 +1,8 @@
 //! What the place where an expression stands asks of it.
 
-ghost use Rattle.std.specs.Prelude.{◌≡◌, ◌≢◌, ◌≤◌, true, false};
-ghost use Rattle.bundle_syntax.specs.declared.operator.BinaryOp.TheVariants.{In as in_operator};
-ghost use Rattle.bundle_syntax.specs.Item as head;
-ghost use Rattle.bundle_syntax.specs.Item.{head_of};
-ghost use Rattle.bundle_js_print.specs.Levels.{level, rank};
-ghost use Rattle.bundle_js_print.specs.declared.context.Link.TheVariants as links;
-ghost use Rattle.bundle_js_print.specs.declared.context.Start.TheVariants as starts;
+ghost use Rattle.std.specs.Prelude.{◌≡◌, false, option_map, unwrap_or};
+ghost use Rattle.bundle_syntax.specs.Item.{head_of, item_of};
+ghost use Rattle.bundle_js_print.specs.Levels.{begins_brace, begins_declaration, begins_pattern, binary_place, for_place, is_computed, is_computed_name, is_excused, is_head, is_misread, is_object_pattern, is_taken, is_torn, name_needs_parens, needs_parens, operand_place, place_level, property_place, slot_level, slot_no_in, statement_place};
 
 use crate::level::{Level, left_level, level_of, right_level};
 use bundle_syntax::{BinaryOp, Node, Piece};
@@ -90,7 +86,10 @@ pub enum Slot {
 
 impl PrintContext {
     /// What is asked of what stands between brackets.
-    pub fn inside(least: Level) -> PrintContext {
+    pub fn inside(least: Level) -> PrintContext
+        ensures level { result.least ≡ least }
+        ensures in_head { result.no_in ≡ false }
+    {
         PrintContext {
             least,
             takes_coalesce: false,
@@ -103,7 +102,10 @@ impl PrintContext {
     }
 
     /// What is asked of a child, where this is asked of its node.
-    pub fn of_child(self, slot: Slot) -> PrintContext {
+    pub fn of_child(self, slot: Slot) -> PrintContext
+        ensures level { result.least ≡ unwrap_or (slot_level slot) self.least }
+        ensures in_head { result.no_in ≡ slot_no_in self.no_in slot }
+    {
         match slot {
             Slot::Inside(least) => PrintContext::inside(least),
             Slot::Right(least) => self.right(least),
@@ -147,14 +149,20 @@ impl PrintContext {
         }
     }
 
-    fn right(self, least: Level) -> PrintContext {
+    fn right(self, least: Level) -> PrintContext
+        ensures level { result.least ≡ least }
+        ensures in_head { result.no_in ≡ self.no_in }
+    {
         PrintContext {
             no_in: self.no_in,
             ..PrintContext::inside(least)
         }
     }
 
-    fn left(self, least: Level) -> PrintContext {
+    fn left(self, least: Level) -> PrintContext
+        ensures level { result.least ≡ least }
+        ensures in_head { result.no_in ≡ self.no_in }
+    {
         PrintContext {
             start: begin_of(self.start),
             ..self.right(least)
@@ -179,13 +187,27 @@ fn object_of(link: Link) -> Link {
 }
 
 /// Whether it is the head of a `for` that is begun.
-pub fn is_for_head(start: Start) -> bool {
+pub fn is_for_head(start: Start) -> bool
+    ensures { result ≡ is_head start }
+{
     matches!(start, Start::ForHead | Start::ForOf | Start::ForLet)
 }
 
 /// What a node asks of the expression in its field of this number, which is its first child or not.
-pub fn slot_of(node: &Node, field: u8, is_first: bool) -> Slot {
-    match node {
+pub fn slot_of(node: &Node, field: u8, is_first: bool) -> Slot
+    ensures { slot_level result ≡ place_level (head_of node.now) field }
+{
+    match statement_slot(node, field, is_first) {
+        Some(slot) => slot,
+        None => operand_slot(node, field),
+    }
+}
+
+// The same of what is no operator.
+fn statement_slot(node: &Node, field: u8, is_first: bool) -> Option<Slot>
+    ensures { option_map slot_level result ≡ statement_place (head_of node.now) field }
+{
+    Some(match node {
         Node::SeqExpr => if is_first {
             Slot::Left(Level::Assignment)
         } else {
@@ -193,54 +215,85 @@ pub fn slot_of(node: &Node, field: u8, is_first: bool) -> Slot {
         },
         Node::ExprStmt => Slot::Begin(Level::Sequence, Start::Statement),
         Node::ExportDefaultExpr => Slot::Begin(Level::Assignment, Start::Default),
-        Node::ForStmt if field == 0 => Slot::Begin(Level::Sequence, Start::ForHead),
-        Node::ForInStmt if field == 0 => Slot::Begin(Level::Chain, Start::ForHead),
-        Node::ForOfStmt { is_await: false } if field == 1 => Slot::Begin(
-            Level::Chain,
-            Start::ForOf,
-        ),
-        Node::ForOfStmt { is_await: true } if field == 1 => Slot::Begin(
-            Level::Chain,
-            Start::ForLet,
-        ),
-        Node::ForOfStmt { .. } if field == 2 => Slot::Inside(Level::Assignment),
-        Node::IfStmt | Node::WithStmt | Node::WhileStmt | Node::LabeledStmt if field != 0 =>
-            Slot::Body,
-        Node::ForStmt | Node::ForOfStmt { .. } if field == 3 => Slot::Body,
-        Node::ForInStmt if field == 2 => Slot::Body,
+        Node::ForStmt | Node::ForInStmt | Node::ForOfStmt { .. } => for_slot(node, field),
+        Node::IfStmt | Node::WithStmt | Node::WhileStmt => if field == 0 {
+            Slot::Inside(Level::Sequence)
+        } else {
+            Slot::Body
+        },
+        Node::LabeledStmt => if field == 0 {
+            Slot::Inside(Level::Assignment)
+        } else {
+            Slot::Body
+        },
         Node::VarDecl { .. } => Slot::Right(Level::Sequence),
-        Node::VarDeclarator if field == 1 => Slot::Right(Level::Assignment),
-        Node::BindingIdent => Slot::Whole,
-        Node::RestPat | Node::ArrayPat | Node::AssignPat if field == 0 => Slot::Inside(
-            Level::Chain,
-        ),
-        Node::KeyValuePatProp if field == 1 => Slot::Inside(Level::Chain),
-        Node::Class => if field == 0 {
-            Slot::Inside(Level::Chain)
+        Node::VarDeclarator => if field == 1 {
+            Slot::Right(Level::Assignment)
         } else {
             Slot::Inside(Level::Assignment)
         },
+        Node::BindingIdent => Slot::Whole,
+        Node::RestPat | Node::ArrayPat | Node::AssignPat | Node::Class => Slot::Inside(if field
+            == 0
+        {
+            Level::Chain
+        } else {
+            Level::Assignment
+        }),
+        Node::KeyValuePatProp => Slot::Inside(if field == 1 {
+            Level::Chain
+        } else {
+            Level::Assignment
+        }),
         Node::MemberExpr | Node::SuperPropExpr | Node::ComputedPropName => property_slot(
             node, field,
         ),
         Node::ParenExpr
         | Node::ReturnStmt
         | Node::ThrowStmt
-        | Node::IfStmt
-        | Node::WithStmt
         | Node::SwitchStmt
         | Node::SwitchCase
-        | Node::WhileStmt
         | Node::DoWhileStmt
-        | Node::ForStmt
-        | Node::ForInStmt
         | Node::Tpl => Slot::Inside(Level::Sequence),
-        _ => operand_slot(node, field),
+        _ => return None,
+    })
+}
+
+// The same of a `for`.
+fn for_slot(node: &Node, field: u8) -> Slot
+    ensures { slot_level result ≡ for_place (head_of node.now) field }
+{
+    match node {
+        Node::ForStmt => match field {
+            0 => Slot::Begin(Level::Sequence, Start::ForHead),
+            3 => Slot::Body,
+            _ => Slot::Inside(Level::Sequence),
+        },
+        Node::ForInStmt => match field {
+            0 => Slot::Begin(Level::Chain, Start::ForHead),
+            2 => Slot::Body,
+            _ => Slot::Inside(Level::Sequence),
+        },
+        Node::ForOfStmt { is_await } => match field {
+            1 => Slot::Begin(
+                Level::Chain,
+                if *is_await {
+                    Start::ForLet
+                } else {
+                    Start::ForOf
+                },
+            ),
+            3 => Slot::Body,
+            _ => Slot::Inside(Level::Assignment),
+        },
+        _ => Slot::Inside(Level::Assignment),
     }
 }
 
 // The same of what has a property.
-fn property_slot(node: &Node, field: u8) -> Slot {
+fn property_slot(node: &Node, field: u8) -> Slot
+    ensures { slot_level result ≡ property_place (head_of node.now) field }
+{
     match node {
         Node::MemberExpr if field == 0 => Slot::Object,
         Node::ComputedPropName => Slot::Whole,
@@ -249,7 +302,9 @@ fn property_slot(node: &Node, field: u8) -> Slot {
 }
 
 // The same of operators.
-fn operand_slot(node: &Node, field: u8) -> Slot {
+fn operand_slot(node: &Node, field: u8) -> Slot
+    ensures { slot_level result ≡ operand_place (head_of node.now) field }
+{
     match node {
         Node::UnaryExpr { .. } | Node::AwaitExpr => Slot::Right(Level::Unary),
         Node::UpdateExpr { prefix: true, .. } => Slot::Right(Level::Chain),
@@ -279,7 +334,9 @@ fn operand_slot(node: &Node, field: u8) -> Slot {
     }
 }
 
-fn binary_slot(op: BinaryOp, field: u8) -> Slot {
+fn binary_slot(op: BinaryOp, field: u8) -> Slot
+    ensures { slot_level result ≡ binary_place op field }
+{
     if field != 1 {
         Slot::Right(right_level(op))
     } else if op == BinaryOp::NullishCoalescing {
@@ -291,55 +348,48 @@ fn binary_slot(op: BinaryOp, field: u8) -> Slot {
 
 /// Whether a node needs parentheses where this is asked of it. `next` is the piece behind its begin.
 pub fn needs_parens(node: &Node, context: PrintContext, next: Option<&Piece>) -> bool
-    ensures tight { result ≡ false → context.takes_coalesce ≡ false → context.link ≢ links.Object
-        → rank context.least ≤ rank (level (head_of node.now)) }
-    ensures in_head { result ≡ false → context.no_in ≡ true
-        → head_of node.now ≢ head.BinExpr in_operator }
-    ensures called { result ≡ false → context.no_call ≡ true → head_of node.now ≢ head.CallExpr }
-    ensures statement { result ≡ false → context.start ≡ starts.Statement
-        → (head_of node.now ≢ head.ObjectLit) × (head_of node.now ≢ head.FnExpr)
-        × (head_of node.now ≢ head.ClassExpr) }
-    ensures arrow { result ≡ false → context.start ≡ starts.ArrowBody
-        → head_of node.now ≢ head.ObjectLit }
-    ensures default { result ≡ false → context.start ≡ starts.Default
-        → (head_of node.now ≢ head.FnExpr) × (head_of node.now ≢ head.ClassExpr) }
-    ensures minimal { context.start ≡ starts.Free → context.no_in ≡ false
-        → context.no_call ≡ false → rank context.least ≤ rank (level (head_of node.now))
-        → result ≡ false }
+    ensures { result ≡ needs_parens (head_of node.now) context
+        (option_map (λ it. item_of it.now) next.entry) }
 {
     is_torn(node, context) || is_misread(node, context.start, next)
 }
 
 // Whether a node would be torn apart, or end what it stands in.
 fn is_torn(node: &Node, context: PrintContext) -> bool
-    ensures tight { result ≡ false → context.takes_coalesce ≡ false → context.link ≢ links.Object
-        → rank context.least ≤ rank (level (head_of node.now)) }
-    ensures in_head { result ≡ false → context.no_in ≡ true
-        → head_of node.now ≢ head.BinExpr in_operator }
-    ensures called { result ≡ false → context.no_call ≡ true → head_of node.now ≢ head.CallExpr }
-    ensures minimal { context.no_in ≡ false → context.no_call ≡ false
-        → rank context.least ≤ rank (level (head_of node.now)) → result ≡ false }
+    ensures { result ≡ is_torn (head_of node.now) context }
+{
+    is_taken(node, context)
+        || (level_of(node).is_looser(context.least) && !is_excused(node, context))
+}
+
+// Whether what stands around a node would take a part of it: the head of a `for` its `in`, a `new` its arguments.
+fn is_taken(node: &Node, context: PrintContext) -> bool
+    ensures { result ≡ is_taken (head_of node.now) context }
 {
     match node {
-        Node::BinExpr { op: BinaryOp::In } if context.no_in => true,
-        Node::BinExpr {
-            op: BinaryOp::NullishCoalescing,
-        } if context.takes_coalesce => false,
-        Node::CallExpr if context.no_call => true,
-        Node::OptChainExpr { .. } if context.link == Link::Object => false,
-        _ => level_of(node).is_looser(context.least),
+        Node::BinExpr { op } => matches!(op, BinaryOp::In) && context.no_in,
+        Node::CallExpr => context.no_call,
+        _ => false,
+    }
+}
+
+// Whether a node may stand where it does however loose it is: a `??` on the left of another, a chain in a chain.
+fn is_excused(node: &Node, context: PrintContext) -> bool
+    ensures { result ≡ is_excused (head_of node.now) context }
+{
+    match node {
+        Node::BinExpr { op } => {
+            matches!(op, BinaryOp::NullishCoalescing) && context.takes_coalesce
+        }
+        Node::OptChainExpr { .. } => context.link == Link::Object,
+        _ => false,
     }
 }
 
 // Whether the first word of a node would be read as something else.
 fn is_misread(node: &Node, start: Start, next: Option<&Piece>) -> bool
-    ensures statement { result ≡ false → start ≡ starts.Statement
-        → (head_of node.now ≢ head.ObjectLit) × (head_of node.now ≢ head.FnExpr)
-        × (head_of node.now ≢ head.ClassExpr) }
-    ensures arrow { result ≡ false → start ≡ starts.ArrowBody → head_of node.now ≢ head.ObjectLit }
-    ensures default { result ≡ false → start ≡ starts.Default
-        → (head_of node.now ≢ head.FnExpr) × (head_of node.now ≢ head.ClassExpr) }
-    ensures free { start ≡ starts.Free → result ≡ false }
+    ensures { result ≡ is_misread start (head_of node.now)
+        (option_map (λ it. item_of it.now) next.entry) }
 {
     match start {
         Start::Statement => begins_brace(node, next) || begins_declaration(node),
@@ -350,31 +400,44 @@ fn is_misread(node: &Node, start: Start, next: Option<&Piece>) -> bool
 }
 
 fn begins_declaration(node: &Node) -> bool
-    ensures { result ≡ false
-        → (head_of node.now ≢ head.FnExpr) × (head_of node.now ≢ head.ClassExpr) }
+    ensures { result ≡ begins_declaration (head_of node.now) }
 {
     matches!(node, Node::FnExpr | Node::ClassExpr)
 }
 
 // Whether a node begins with a brace that parentheses around what is in it would make another.
 fn begins_brace(node: &Node, next: Option<&Piece>) -> bool
-    ensures { result ≡ false → head_of node.now ≢ head.ObjectLit }
+    ensures { result ≡ begins_brace (head_of node.now)
+        (option_map (λ it. item_of it.now) next.entry) }
 {
     match node {
         Node::ObjectLit => true,
-        Node::AssignExpr { .. } => matches!(
-            next,
-            Some(Piece::Open {
-                node: Node::ObjectPat,
-                ..
-            })
-        ),
+        Node::AssignExpr { .. } => begins_pattern(next),
         _ => false,
     }
 }
 
+// Whether a pattern of an object begins with this piece.
+fn begins_pattern(piece: Option<&Piece>) -> bool
+    ensures { result ≡ begins_pattern (option_map (λ it. item_of it.now) piece.entry) }
+{
+    match piece {
+        Some(Piece::Open { node, .. }) => is_object_pattern(node),
+        _ => false,
+    }
+}
+
+fn is_object_pattern(node: &Node) -> bool
+    ensures { result ≡ is_object_pattern (head_of node.now) }
+{
+    matches!(node, Node::ObjectPat)
+}
+
 /// Whether an identifier needs parentheses where it begins that. `next` is the piece behind it.
-pub fn name_needs_parens(name: &str, start: Start, next: Option<&Piece>) -> bool {
+pub fn name_needs_parens(name: &str, start: Start, next: Option<&Piece>) -> bool
+    ensures { result ≡ name_needs_parens name.now start
+        (option_map (λ it. item_of it.now) next.entry) }
+{
     match start {
         Start::Statement | Start::ForHead => name == "let" && is_computed(next),
         Start::ForOf => name == "let" || name == "async",
@@ -383,12 +446,17 @@ pub fn name_needs_parens(name: &str, start: Start, next: Option<&Piece>) -> bool
     }
 }
 
-fn is_computed(next: Option<&Piece>) -> bool {
-    matches!(
-        next,
-        Some(Piece::Open {
-            node: Node::ComputedPropName,
-            ..
-        })
-    )
+fn is_computed(piece: Option<&Piece>) -> bool
+    ensures { result ≡ is_computed (option_map (λ it. item_of it.now) piece.entry) }
+{
+    match piece {
+        Some(Piece::Open { node, .. }) => is_computed_name(node),
+        _ => false,
+    }
+}
+
+fn is_computed_name(node: &Node) -> bool
+    ensures { result ≡ is_computed_name (head_of node.now) }
+{
+    matches!(node, Node::ComputedPropName)
 }

@@ -1,10 +1,8 @@
 //! How tightly the parts of an expression hold together (ECMA-262, 13).
 
-ghost use Rattle.std.specs.Prelude.{◌≡◌, ◌≢◌, ◌<◌, ◌≤◌, ◌↔◌, IsTrue};
-ghost use Rattle.bundle_syntax.specs.declared.operator.BinaryOp.TheVariants.{Exp as power};
+ghost use Rattle.std.specs.Prelude.{◌≡◌};
 ghost use Rattle.bundle_syntax.specs.Item.{head_of};
-ghost use Rattle.bundle_js_print.specs.Levels.{level, operator_level, rank};
-ghost use Rattle.bundle_js_print.specs.declared.level.Level.TheVariants as levels;
+ghost use Rattle.bundle_js_print.specs.Levels.{is_looser, left_operand, level, operator_level, right_operand, tighter};
 
 use bundle_syntax::{BinaryOp, Node};
 
@@ -39,7 +37,7 @@ pub enum Level {
 impl Level {
     /// Whether what is of this level may not stand where `least` is asked for.
     pub fn is_looser(self, least: Level) -> bool
-        ensures { IsTrue result ↔ (rank self < rank least) }
+        ensures { result ≡ is_looser self least }
     {
         (self as u8) < (least as u8)
     }
@@ -66,8 +64,7 @@ pub fn level_of(node: &Node) -> Level
 
 /// How tightly a binary operator holds its operands (ECMA-262, 13.6 to 13.13).
 pub fn binary_level(op: BinaryOp) -> Level
-    ensures level { result ≡ operator_level op }
-    ensures operator { rank result < rank levels.Member }
+    ensures { result ≡ operator_level op }
 {
     match op {
         BinaryOp::NullishCoalescing => Level::Coalesce,
@@ -92,7 +89,7 @@ pub fn binary_level(op: BinaryOp) -> Level
 
 /// The loosest that the left operand of a binary operator may be. Of `??` it may be another `??` besides.
 pub fn left_level(op: BinaryOp) -> Level
-    ensures { rank (operator_level op) ≤ rank result }
+    ensures { result ≡ left_operand op }
 {
     match op {
         BinaryOp::Exp => Level::Update,
@@ -103,8 +100,7 @@ pub fn left_level(op: BinaryOp) -> Level
 
 /// The loosest that the right operand of a binary operator may be.
 pub fn right_level(op: BinaryOp) -> Level
-    ensures operand { rank (operator_level op) ≤ rank result }
-    ensures tighter { op ≢ power → rank (operator_level op) < rank result }
+    ensures { result ≡ right_operand op }
 {
     match op {
         BinaryOp::Exp => Level::Power,
@@ -115,7 +111,7 @@ pub fn right_level(op: BinaryOp) -> Level
 
 // The level above that of an operator whose operands stand from the left to the right.
 fn next_level(operator: Level) -> Level
-    ensures { rank operator < rank levels.Member → rank operator < rank result }
+    ensures { result ≡ tighter operator }
 {
     match operator {
         Level::Or => Level::And,

@@ -1,5 +1,8 @@
 //! What is written between the parts of a node, and before and behind them.
 
+ghost use Rattle.bundle_syntax.specs.Item.{head_of};
+ghost use Rattle.bundle_js_print.specs.Openings.{Opens, head_text, opening_text};
+
 use bundle_syntax::{MethodKind, Node, UnaryOp};
 
 /// What is written where a node begins.
@@ -84,7 +87,9 @@ pub enum Ending {
 }
 
 /// What is written where a node begins.
-pub fn opening_of<'a>(node: &Node<'a>) -> Opening<'a> {
+pub fn opening_of<'a>(node: &Node<'a>) -> Opening<'a>
+    ensures { Opens (head_text (head_of node.now)) (opening_text result) }
+{
     match node {
         Node::ImportDecl { .. } => Opening::Text("import "),
         Node::ImportStarAsSpecifier | Node::ExportNamespaceSpecifier => Opening::Text("* as "),
@@ -122,7 +127,9 @@ pub fn opening_of<'a>(node: &Node<'a>) -> Opening<'a> {
 }
 
 // The same of expressions, literals and names.
-fn expression_opening<'a>(node: &Node<'a>) -> Opening<'a> {
+fn expression_opening<'a>(node: &Node<'a>) -> Opening<'a>
+    ensures { Opens (head_text (head_of node.now)) (opening_text result) }
+{
     match node {
         Node::IdentName { sym } => Opening::Raw(sym),
         Node::PrivateName { sym } => Opening::Private(sym),
@@ -138,7 +145,7 @@ fn expression_opening<'a>(node: &Node<'a>) -> Opening<'a> {
         Node::ArrayLit => Opening::Text("["),
         Node::ObjectLit => Opening::Text("{"),
         Node::UnaryExpr { op } => Opening::Text(op.as_str()),
-        Node::UpdateExpr { op, prefix: true } => Opening::Text(op.as_str()),
+        Node::UpdateExpr { op, prefix } => Opening::Text(if *prefix { op.as_str() } else { "" }),
         Node::SuperPropExpr | Node::Super => Opening::Text("super"),
         Node::Import => Opening::Text("import"),
         Node::NewExpr { .. } => Opening::Text("new "),
@@ -147,7 +154,7 @@ fn expression_opening<'a>(node: &Node<'a>) -> Opening<'a> {
         Node::AwaitExpr => Opening::Text("await "),
         Node::MetaPropExpr { kind } => Opening::Text(kind.as_str()),
         Node::ParenExpr => Opening::Text("("),
-        Node::ExprOrSpread { spread: true } => Opening::Text("..."),
+        Node::ExprOrSpread { spread } => Opening::Text(if *spread { "..." } else { "" }),
         _ => statement_opening(node),
     }
 }

@@ -1,6 +1,10 @@
 //! String literals (ECMA-262, 12.9.4).
 
-ghost use Rattle.std.specs.Prelude.{◌≤◌, string_len};
+ghost use Rattle.std.specs.Prelude.{◌≡◌, ◌<◌, ◌≤◌, [], ◌∷◌, ◌++◌, OnOk, nat_lt, string_bytes, string_len, encode_utf8_all, flat_map, option_map};
+ghost use Rattle.std.specs.List.{list_all};
+ghost use Rattle.std.specs.Char.{digit_char};
+ghost use Rattle.std.specs.Char.Escape.{encode_utf16};
+ghost use Rattle.bundle_js_print.specs.Literal.{PutsLiteral, PutsString, Writes, IsSpelling, byte_escape, unit_escape, digit_pair};
 
 use std::alloc::AllocError;
 
@@ -22,6 +26,8 @@ pub fn push_string(
     charset: Charset,
 ) -> Result<(), AllocError>
     ensures grows { string_len text.old ≤ string_len text.new }
+    ensures reads { OnOk result (PutsString charset (string_bytes text.old)
+        (string_bytes text.new) value.now (option_map (λ it. it.now) raw.entry)) }
 {
     match raw {
         Some(raw) if is_literal(raw) && (charset == Charset::Utf8 || is_ascii(raw)) => {
@@ -31,13 +37,10 @@ pub fn push_string(
     }
 }
 
-fn is_ascii(text: &str) -> bool {
-    for byte in text.as_bytes() {
-        if *byte > 127 {
-            return false;
-        }
-    }
-    true
+fn is_ascii(text: &str) -> bool
+    ensures { result ≡ list_all (λ it. nat_lt it 128) text.now }
+{
+    text.as_bytes().iter().all(|byte| *byte < 128)
 }
 
 // What may come next in a literal.
@@ -162,6 +165,8 @@ fn after_brace(byte: u8, number: u32) -> Expected {
 // Puts a value in quotes behind a text.
 fn push_quoted(text: &mut String, value: &str, charset: Charset) -> Result<(), AllocError>
     ensures grows { string_len text.old ≤ string_len text.new }
+    ensures literal { OnOk result (PutsLiteral charset (string_bytes text.old)
+        (string_bytes text.new) value.now) }
 {
     text.push('"')?;
     for letter in value.chars() {
@@ -170,54 +175,107 @@ fn push_quoted(text: &mut String, value: &str, charset: Charset) -> Result<(), A
     text.push('"')
 }
 
-fn push_letter(text: &mut String, letter: char, charset: Charset) -> Result<(), AllocError>
-    ensures grows { string_len text.old ≤ string_len text.new }
+// How a letter stands in quotes.
+#[derive(Clone, Copy)]
+enum LetterSpelling {
+    Itself,
+    /// By this letter behind a backslash.
+    Escaped(char),
+    /// By two hexadecimal digits.
+    Byte,
+    /// By four for each of its units of UTF-16.
+    Units,
+}
+
+fn spelling_of(letter: char, charset: Charset) -> LetterSpelling
+    ensures { IsSpelling charset result letter }
 {
     match letter {
-        '"' => text.push_str("\\\""),
-        '\\' => text.push_str("\\\\"),
-        '\n' => text.push_str("\\n"),
-        '\r' => text.push_str("\\r"),
-        '\t' => text.push_str("\\t"),
-        '\u{8}' => text.push_str("\\b"),
-        '\u{b}' => text.push_str("\\v"),
-        '\u{c}' => text.push_str("\\f"),
-        '\u{0}'..='\u{1f}' | '\u{7f}' => push_escape(text, "\\x", letter as u32, 2),
-        ' '..='~' => text.push(letter),
-        '\u{2028}' | '\u{2029}' | '\u{feff}' => push_escape(text, "\\u", letter as u32, 4),
-        _ => if charset == Charset::Ascii {
-            push_units(text, letter as u32)
-        } else {
-            text.push(letter)
+        '"' | '\\' => LetterSpelling::Escaped(letter),
+        '\n' => LetterSpelling::Escaped('n'),
+        '\r' => LetterSpelling::Escaped('r'),
+        '\t' => LetterSpelling::Escaped('t'),
+        '\u{8}' => LetterSpelling::Escaped('b'),
+        '\u{b}' => LetterSpelling::Escaped('v'),
+        '\u{c}' => LetterSpelling::Escaped('f'),
+        '\u{0}'..='\u{1f}' | '\u{7f}' => LetterSpelling::Byte,
+        ' '..='~' => LetterSpelling::Itself,
+        '\u{2028}' | '\u{2029}' | '\u{feff}' => LetterSpelling::Units,
+        _ => match charset {
+            Charset::Ascii => LetterSpelling::Units,
+            Charset::Utf8 => LetterSpelling::Itself,
         },
     }
 }
 
-// Puts a letter behind a text by its one or two units of UTF-16.
-fn push_units(text: &mut String, code: u32) -> Result<(), AllocError>
+fn push_letter(text: &mut String, letter: char, charset: Charset) -> Result<(), AllocError>
     ensures grows { string_len text.old ≤ string_len text.new }
+    ensures reads { OnOk result (Writes charset (string_bytes text.old) (string_bytes text.new)
+        (encode_utf16 letter)) }
 {
-    if code < 0x10000 {
-        return push_escape(text, "\\u", code, 4);
+    match spelling_of(letter, charset) {
+        LetterSpelling::Itself => text.push(letter),
+        LetterSpelling::Escaped(by) => push_escaped(text, by),
+        LetterSpelling::Byte => push_byte(text, letter as u32),
+        LetterSpelling::Units => push_units(text, letter as u32),
     }
-    let rest = code - 0x10000;
-    push_escape(text, "\\u", 0xd800 + (rest >> 10) % 0x400, 4)?;
-    push_escape(text, "\\u", 0xdc00 + rest % 0x400, 4)
 }
 
-// Puts a number of so many hexadecimal digits behind a text.
-fn push_escape(
-    text: &mut String,
-    lead: &'static str,
-    code: u32,
-    digits: u32,
-) -> Result<(), AllocError>
+fn push_escaped(text: &mut String, by: char) -> Result<(), AllocError>
     ensures grows { string_len text.old ≤ string_len text.new }
+    ensures bytes { OnOk result (string_bytes text.new
+        ≡ string_bytes text.old ++ encode_utf8_all (92 ∷ by ∷ [])) }
 {
-    text.push_str(lead)?;
-    for place in (0..digits.min(8)).rev() {
-        let digit = (code >> (4 * place)) & 15;
-        text.push(char::from_digit(digit, 16).unwrap_or('0'))?;
+    text.push('\\')?;
+    text.push(by)
+}
+
+fn push_byte(text: &mut String, byte: u32) -> Result<(), AllocError>
+    ensures grows { string_len text.old ≤ string_len text.new }
+    ensures bytes { OnOk result (string_bytes text.new
+        ≡ string_bytes text.old ++ encode_utf8_all (byte_escape byte)) }
+{
+    text.push_str("\\x")?;
+    push_pair(text, byte)
+}
+
+// Puts a letter behind a text by its one or two units of UTF-16.
+fn push_units(text: &mut String, code: u32) -> Result<(), AllocError>
+    requires { code < 0x110000 }
+    ensures grows { string_len text.old ≤ string_len text.new }
+    ensures bytes { OnOk result (string_bytes text.new
+        ≡ string_bytes text.old ++ encode_utf8_all (flat_map unit_escape (encode_utf16 code))) }
+{
+    if code < 0x10000 {
+        return push_unit(text, code);
     }
-    Ok(())
+    let rest = code - 0x10000;
+    push_unit(text, 0xd800 + rest / 0x400)?;
+    push_unit(text, 0xdc00 + rest % 0x400)
+}
+
+fn push_unit(text: &mut String, unit: u32) -> Result<(), AllocError>
+    ensures grows { string_len text.old ≤ string_len text.new }
+    ensures bytes { OnOk result (string_bytes text.new
+        ≡ string_bytes text.old ++ encode_utf8_all (unit_escape unit)) }
+{
+    text.push_str("\\u")?;
+    push_pair(text, unit / 256)?;
+    push_pair(text, unit)
+}
+
+// Puts the lowest byte of a number behind a text, by its two hexadecimal digits.
+fn push_pair(text: &mut String, byte: u32) -> Result<(), AllocError>
+    ensures grows { string_len text.old ≤ string_len text.new }
+    ensures bytes { OnOk result (string_bytes text.new
+        ≡ string_bytes text.old ++ encode_utf8_all (digit_pair byte)) }
+{
+    text.push(digit_of(byte / 16 % 16))?;
+    text.push(digit_of(byte % 16))
+}
+
+fn digit_of(digit: u32) -> char
+    ensures { digit < 16 → result ≡ digit_char digit }
+{
+    char::from_digit(digit, 16).unwrap_or('0')
 }

@@ -2,6 +2,7 @@
 //! of each piece in the text (ECMA-262, 13th edition).
 #![tactic(auto)]
 
+mod doubts;
 mod error;
 mod foreign;
 mod source;

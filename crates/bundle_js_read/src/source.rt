@@ -1,14 +1,15 @@
 //! A text that was read.
 
-ghost use Rattle.std.specs.Prelude.{◌≡◌, ◌≤◌, ⊤, length, IfErr, MatchResult};
+ghost use Rattle.std.specs.Prelude.{◌≡◌, ◌≤◌, length, IfErr, MatchResult};
 ghost use Rattle.bundle_js_pieces.specs.Brackets.{IsBracketed};
+ghost use Rattle.bundle_js_read.specs.Doubts as doubts;
 
+use crate::doubts::{has_declaration, has_doubt};
 use crate::error::{ReadError, ReadErrorKind};
 use crate::foreign::foreign_at;
 use bundle_js_errors::{Early, EarlyError, check};
 use bundle_js_parse::{Parsed, parse};
 use bundle_js_pieces::{PieceError, Placed, RecordTexts, pieces};
-use bundle_js_record::kind::Kind;
 use bundle_js_record::reader::Stop;
 use bundle_js_scan::gap::Goal;
 use bundle_syntax::{ExportMetadata, Piece};
@@ -40,7 +41,8 @@ impl<'a> SourceModule<'a> {
     /// The module of a text of which these are the records. Of another text's records `pieces` is refused as
     /// `ReadErrorKind::Internal`, or gives the list of no module that stands here.
     pub fn with_records(text: &'a str, records: SourceRecords) -> SourceModule<'a>
-        ensures { result.text.now ≡ text.now }
+        ensures text { result.text.now ≡ text.now }
+        ensures records { result.parsed ≡ records.parsed }
     {
         let SourceRecords { parsed } = records;
         SourceModule {
@@ -50,8 +52,10 @@ impl<'a> SourceModule<'a> {
         }
     }
 
-    /// What was read, without the text.
-    pub fn into_records(self) -> SourceRecords {
+    /// What was read, without the text: `with_records` makes the module of it again.
+    pub fn into_records(self) -> SourceRecords
+        ensures { result.parsed ≡ self.entry.parsed }
+    {
         let SourceModule { parsed, .. } = self;
         SourceRecords { parsed }
     }
@@ -60,29 +64,19 @@ impl<'a> SourceModule<'a> {
     /// only an ECMAScript module may have, and tokens that are the same in both. They are not where a comment like those
     /// of HTML begins (ECMA-262, B.1.1), or where `await` stands before what is a division behind a name. Where this says
     /// no, the text may still be no CommonJS module.
-    pub fn is_no_common_js(&self) -> bool {
-        let mut has_declaration = false;
-        for record in self.parsed.records.as_slice() {
-            match record.kind {
-                Kind::ImportDecl
-                | Kind::ExportDecl
-                | Kind::NamedExport
-                | Kind::ExportDefaultDecl
-                | Kind::ExportDefaultExpr
-                | Kind::ExportAll => has_declaration = true,
-                Kind::UpdateExpr if is_comment_of_html(self.text, record.from) => return false,
-                Kind::AwaitExpr if is_name_before_slash(self.text, record.from) => return false,
-                _ => {}
-            }
-        }
-        has_declaration
+    pub fn is_no_common_js(&self) -> bool
+        ensures { result ≡ doubts.is_no_common_js self.now.text.now self.now.parsed.records.items }
+    {
+        let records = self.parsed.records.as_slice();
+        has_declaration(records) && !has_doubt(self.text, records)
     }
 
     /// Reads a text as a module of this goal (ECMA-262, 16.2; a CommonJS module is the body of a function in
     /// strict code). Nests take memory and no stack. Refused where the text is none, with the place in the text
     /// that is wrong first, and for memory. What declares or exports a name twice is read.
     pub fn read(alloc: Global, text: &'a str, goal: Goal) -> Result<SourceModule<'a>, ReadError>
-        ensures { MatchResult result (λ _. ⊤) (λ error. error.at ≤ length text.now) }
+        ensures { MatchResult result (λ source. source.text.now ≡ text.now)
+            (λ error. error.at ≤ length text.now) }
     {
         let parsed = match parse(alloc, text, goal) {
             Ok(parsed) => parsed,
@@ -200,26 +194,6 @@ fn begin_behind(list: &Placed<'_>, piece: usize, byte: u32) -> usize {
         }
     }
     list.pieces.len()
-}
-
-// Whether what begins at a byte is the end of `<!--`.
-fn is_comment_of_html(text: &str, from: u32) -> bool {
-    let (front, _) = split_at(text.as_bytes(), from);
-    front.ends_with(b"<!")
-}
-
-// Whether behind the `await` at a byte a slash may stand, white space and comments aside.
-fn is_name_before_slash(text: &str, from: u32) -> bool {
-    let (_, await_and_rest) = split_at(text.as_bytes(), from);
-    match await_and_rest.iter().skip(5).find(|byte| **byte > b' ') {
-        Some(byte) => *byte == b'/' || !byte.is_ascii(),
-        None => true,
-    }
-}
-
-// What of a text stands before a byte, and from there on.
-fn split_at(text: &[u8], at: u32) -> (&[u8], &[u8]) {
-    text.split_at((at as usize).min(text.len()))
 }
 
 // A byte of the text, 0 where there is no such byte.

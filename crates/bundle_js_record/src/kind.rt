@@ -166,8 +166,8 @@ pub enum Kind {
     // Properties of object literals (ECMA-262, 13.2.5).
     /// A name that is a property and its value, in the tree an identifier: a leaf.
     Shorthand,
-    /// 0: key (`Ident`), 1: value. `text`: the byte of the equals sign. `a = 1` in an object, which only a pattern
-    /// may hold: none is left in a list that is handed out.
+    /// 0: key (`Ident`), 1: value. `a = 1` in an object, which only a pattern may hold: none is left in a list that is
+    /// handed out.
     Cover,
     /// 0: expr. `op`: 1, or 2 with a comma behind it.
     SpreadElement,

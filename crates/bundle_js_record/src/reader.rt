@@ -210,15 +210,15 @@ impl<'a> Reader<'a> {
     /// The record of a part of a template, with its text in the store where it is not that of the source. It is
     /// written by `leaf_again`, when the template ends.
     pub fn quasi(&mut self, token: Token) -> Result<Rec, Stop> {
-        let text = self.store.cook(self.lexer.source(), token)?;
+        self.store.cook(self.lexer.source(), token)?;
         Ok(Rec {
             kind: Kind::TplElement,
             field: 1,
             op: 0,
+            escaped: token.escaped,
             start: 0,
             from: token.from,
             to: token.raw_end(),
-            text,
         })
     }
 
@@ -230,20 +230,18 @@ impl<'a> Reader<'a> {
 
     /// Writes a record of this token, which was gone over.
     pub fn leaf_of(&mut self, kind: Kind, op: u8, token: Token) -> Result<(), Stop> {
-        let text = if token.escaped {
-            self.store.cook(self.lexer.source(), token)?
-        } else {
-            0
-        };
+        if token.escaped {
+            self.store.cook(self.lexer.source(), token)?;
+        }
         let start = self.end();
         self.write(Rec {
             kind,
             field: 0,
             op,
+            escaped: token.escaped,
             start,
             from: token.from,
             to: token.to,
-            text,
         })
     }
 
@@ -262,36 +260,25 @@ impl<'a> Reader<'a> {
             kind: Kind::Hole,
             field: 0,
             op: 0,
+            escaped: false,
             start,
             from,
             to: from,
-            text: 0,
         })
     }
 
     /// Writes the record of a node that begins at the place and ends before the token.
     pub fn node(&mut self, kind: Kind, op: u8, place: NodeStart) -> Result<(), Stop> {
-        self.node_with(kind, op, 0, place)
-    }
-
-    /// The same with a number at `text`.
-    pub fn node_with(
-        &mut self,
-        kind: Kind,
-        op: u8,
-        text: u32,
-        place: NodeStart,
-    ) -> Result<(), Stop> {
         let NodeStart { start, from } = place;
         let to = self.lexer.before();
         self.write(Rec {
             kind,
             field: 0,
             op,
+            escaped: false,
             start,
             from,
             to,
-            text,
         })
     }
 
@@ -345,10 +332,10 @@ impl<'a> Reader<'a> {
             Kind::PrivateName => (rec.from.saturating_add(1), rec.to),
             _ => (rec.from, rec.to),
         };
-        let found = if rec.text == 0 {
-            self.lexer.source().get(from as usize..to as usize)
+        let found = if rec.escaped {
+            self.store.text(rec.from)
         } else {
-            self.store.text(rec.text)
+            self.lexer.source().get(from as usize..to as usize)
         };
         match found {
             Some(found) => found == text,

@@ -12,14 +12,14 @@ pub struct Rec {
     pub field: u8,
     /// A number of the kind's own, as `Kind` says.
     pub op: u8,
+    /// Whether its text is not that of the source, and stands in the store.
+    pub escaped: bool,
     /// The place in the list of the first record that lies in it, its own place where it is a leaf.
     pub start: u32,
     /// The byte of the source at which it begins.
     pub from: u32,
     /// The byte of the source behind it.
     pub to: u32,
-    /// The number of its text in the store, from 1 on; 0 where its text is that of the source.
-    pub text: u32,
 }
 
 /// Where a node begins, in the list and in the source.
@@ -37,10 +37,10 @@ pub fn record_at(records: &[Rec], at: usize) -> Rec {
             kind: Kind::Gone,
             field: 0,
             op: 0,
+            escaped: false,
             start: 0,
             from: 0,
             to: 0,
-            text: 0,
         },
     }
 }

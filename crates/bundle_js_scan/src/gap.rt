@@ -28,12 +28,13 @@ pub struct Comment {
     pub to: u32,
 }
 
-// A comment of any kind.
+// A comment of any kind. Only one that is marked may be kept.
 #[derive(Clone, Copy)]
 struct Remark {
     to: usize,
     newline: bool,
     ended: bool,
+    marked: bool,
 }
 
 // A run of white space and line ends.
@@ -44,7 +45,27 @@ struct Space {
 }
 
 /// The white space and the comments that begin here.
+#[inline]
 pub fn gap_at(text: &[u8], from: usize, goal: Goal) -> Gap {
+    if from > 0 && begins_token(byte_at(text, from)) {
+        return Gap {
+            to: from,
+            newline: false,
+            noted: false,
+            open: false,
+        };
+    }
+    wide_gap(text, from, goal)
+}
+
+// Whether with this byte neither white space nor a comment begins.
+#[inline]
+fn begins_token(byte: u8) -> bool {
+    byte > b' ' && byte < 128 && !matches!(byte, b'/' | b'#' | b'<' | b'-')
+}
+
+// The white space and the comments that begin here, be they none.
+fn wide_gap(text: &[u8], from: usize, goal: Goal) -> Gap {
     let mut gap = Gap {
         to: from,
         newline: from == 0,
@@ -62,7 +83,7 @@ pub fn gap_at(text: &[u8], from: usize, goal: Goal) -> Gap {
                     gap.open = true;
                     return gap;
                 }
-                gap.noted = gap.noted || is_kept(text, space.to, remark.to);
+                gap.noted = gap.noted || (remark.marked && is_kept(text, space.to, remark.to));
                 gap.newline = gap.newline || remark.newline;
                 gap.to = remark.to;
             }
@@ -94,21 +115,22 @@ pub fn kept_in(text: &[u8], from: usize, end: usize, goal: Goal) -> Option<Comme
 fn space_at(text: &[u8], from: usize) -> Space {
     let mut newline = false;
     for at in from..text.len() {
-        match text[at] {
-            b' ' | b'\t' | 11 | 12 => {}
-            b'\n' | b'\r' => newline = true,
-            byte => {
-                if byte < 128 {
+        let byte = text[at];
+        if byte > b' ' {
+            if byte < 128 {
+                return Space { to: at, newline };
+            }
+            if !is_inner(byte) {
+                if is_line_end(text, at) {
+                    newline = true;
+                } else if !is_space(char_at(text, at)) {
                     return Space { to: at, newline };
                 }
-                if !is_inner(byte) {
-                    if is_line_end(text, at) {
-                        newline = true;
-                    } else if !is_space(char_at(text, at)) {
-                        return Space { to: at, newline };
-                    }
-                }
             }
+        } else if byte == b'\n' || byte == b'\r' {
+            newline = true;
+        } else if !matches!(byte, b' ' | b'\t' | 11 | 12) {
+            return Space { to: at, newline };
         }
     }
     Space {
@@ -172,15 +194,27 @@ fn begins(text: &[u8], at: usize, word: &[u8]) -> bool {
     true
 }
 
+// Whether the byte ends no comment and no line, and does not mark what is kept.
+#[inline]
+fn is_inside(byte: u8) -> bool {
+    byte == b' ' || (byte > b'@' && byte < 226)
+}
+
 // The comment that goes on to the end of its line.
 fn line_at(text: &[u8], from: usize) -> Remark {
+    let mut marked = false;
     for at in from..text.len() {
         let byte = text[at];
+        if is_inside(byte) {
+            continue;
+        }
+        marked = marked || byte == b'@';
         if byte == b'\n' || byte == b'\r' || (byte == 226 && is_line_end(text, at)) {
             return Remark {
                 to: at,
                 newline: false,
                 ended: true,
+                marked,
             };
         }
     }
@@ -188,31 +222,39 @@ fn line_at(text: &[u8], from: usize) -> Remark {
         to: text.len(),
         newline: false,
         ended: true,
+        marked,
     }
 }
 
 // The comment whose text begins here, behind `/*`.
 fn block_at(text: &[u8], from: usize) -> Remark {
     let mut newline = false;
-    let mut star = false;
+    let mut marked = byte_at(text, from) == b'!';
     for at in from..text.len() {
         let byte = text[at];
-        if star && byte == b'/' {
-            return Remark {
-                to: at + 1,
-                newline,
-                ended: true,
-            };
+        if is_inside(byte) {
+            continue;
         }
-        star = byte == b'*';
-        if byte == b'\n' || byte == b'\r' || (byte == 226 && is_line_end(text, at)) {
-            newline = true;
+        match byte {
+            b'*' => if byte_at(text, at + 1) == b'/' {
+                return Remark {
+                    to: at.saturating_add(2),
+                    newline,
+                    ended: true,
+                    marked,
+                };
+            },
+            b'@' => marked = true,
+            b'\n' | b'\r' => newline = true,
+            226 => newline = newline || is_line_end(text, at),
+            _ => {}
         }
     }
     Remark {
         to: text.len(),
         newline,
         ended: false,
+        marked,
     }
 }
 

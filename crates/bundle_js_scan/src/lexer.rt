@@ -65,7 +65,12 @@ impl<'a> Lexer<'a> {
 
     /// The token behind the one that is looked at, read as one behind a name is.
     pub fn peek(&self) -> Token {
-        token_at(self.source.as_bytes(), self.token.to as usize, self.goal)
+        self.token_behind(self.token.to)
+    }
+
+    /// The token behind this byte, read as one behind a name is.
+    pub fn token_behind(&self, at: u32) -> Token {
+        token_at(self.source.as_bytes(), at as usize, self.goal)
     }
 
     /// Goes to the next token.

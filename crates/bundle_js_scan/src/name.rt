@@ -63,28 +63,64 @@ pub fn parts_end(text: &[u8], from: usize) -> usize {
     text.len()
 }
 
+// Whether the byte is a letter of ASCII.
+#[inline]
+fn is_letter(byte: u8) -> bool {
+    (byte | 32).wrapping_sub(b'a') < 26
+}
+
+/// Whether a name begins with this byte of ASCII.
+#[inline]
+pub fn is_plain_start(byte: u8) -> bool {
+    is_letter(byte) || byte == b'$' || byte == b'_'
+}
+
+// Whether a name may hold this byte of ASCII behind its first.
+#[inline]
+fn is_plain_part(byte: u8) -> bool {
+    is_plain_start(byte) || byte.wrapping_sub(b'0') < 10
+}
+
 /// The name that begins here, of any characters; none where none does.
 pub fn name_at(text: &[u8], from: usize) -> Option<Scanned> {
+    let byte = byte_at(text, from);
+    if is_plain_start(byte) {
+        Some(name_from(text, from))
+    } else if byte == b'\\' || byte >= 128 {
+        wide_name(text, from)
+    } else {
+        None
+    }
+}
+
+/// The name that begins here with a byte of ASCII.
+pub fn name_from(text: &[u8], from: usize) -> Scanned {
     for at in from..text.len() {
-        match text[at] {
-            b'a'..=b'z' | b'A'..=b'Z' | b'$' | b'_' => {}
-            b'0'..=b'9' if at > from => {}
-            b'\\' | 128..=255 => return wide_name(text, from),
-            _ => return plain_name(text, from, at),
+        let byte = text[at];
+        if is_letter(byte) {
+            continue;
+        }
+        if !is_plain_part(byte) {
+            if byte == b'\\' || byte >= 128 {
+                return match wide_name(text, from) {
+                    Some(name) => name,
+                    None => Scanned::plain(Tok::Ident, at),
+                };
+            }
+            return plain_name(text, from, at);
         }
     }
     plain_name(text, from, text.len())
 }
 
 // The name from here to there.
-fn plain_name(text: &[u8], from: usize, to: usize) -> Option<Scanned> {
-    if to <= from {
-        return None;
-    }
-    match text.get(from..to) {
-        Some(word) => Some(Scanned::plain(word_kind(word), to)),
-        None => None,
-    }
+#[inline]
+fn plain_name(text: &[u8], from: usize, to: usize) -> Scanned {
+    let kind = match text.get(from..to) {
+        Some(word) => word_kind(word),
+        None => Tok::Ident,
+    };
+    Scanned::plain(kind, to)
 }
 
 // A name with escapes or characters beyond ASCII, as far as it is read: its first characters, and how many.

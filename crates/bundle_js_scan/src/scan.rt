@@ -5,10 +5,10 @@ ghost use Rattle.std.specs.Prelude.{◌≤◌, ◌<◌, ◌^◌, length};
 use crate::byte::byte_at;
 use crate::fault::ScanError;
 use crate::gap::{Gap, Goal, gap_at};
-use crate::name::name_at;
+use crate::name::{is_plain_start, name_at, name_from};
 use crate::number::number_at;
 use crate::scanned::Scanned;
-use crate::sign::punctuator;
+use crate::sign::{lone_sign, punctuator};
 use crate::string::{chunk_at, regex_at, string_at};
 use crate::token::{Tok, Token};
 
@@ -59,20 +59,28 @@ pub fn chunk_token(text: &[u8], from: usize) -> Token
 }
 
 // The token that begins at this place, where no white space and no comment is.
+#[inline]
 fn scan(text: &[u8], at: usize) -> Scanned {
-    if at >= text.len() {
-        return Scanned::plain(Tok::End, at);
+    let byte = match text.get(at) {
+        Some(byte) => *byte,
+        None => return Scanned::plain(Tok::End, at),
+    };
+    if is_plain_start(byte) {
+        return name_from(text, at);
     }
-    if let Some(name) = name_at(text, at) {
-        return name;
+    let alone = lone_sign(byte);
+    if alone != Tok::Bad {
+        return Scanned::plain(alone, at.saturating_add(1));
     }
-    let byte = text[at];
-    let next = byte_at(text, at + 1);
     match byte {
-        b'\'' | b'"' => string_at(text, at + 1, byte),
+        b'\'' | b'"' => string_at(text, at.saturating_add(1), byte),
         b'0'..=b'9' => number_at(text, at),
-        b'.' if next.is_ascii_digit() => number_at(text, at),
-        b'#' => private(text, at + 1),
+        b'.' if byte_at(text, at.saturating_add(1)).is_ascii_digit() => number_at(text, at),
+        b'#' => private(text, at.saturating_add(1)),
+        b'\\' | 128..=255 => match name_at(text, at) {
+            Some(name) => name,
+            None => sign(text, at),
+        },
         _ => sign(text, at),
     }
 }
@@ -106,6 +114,7 @@ fn sign(text: &[u8], at: usize) -> Scanned {
 }
 
 // The token behind the gap, which ends within the text.
+#[inline]
 fn made(text: &[u8], gap: Gap, scanned: Scanned) -> Token
     requires short { length text.now < 2 ^ 32 }
     ensures ordered { result.from ≤ result.to }

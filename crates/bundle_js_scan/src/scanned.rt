@@ -14,6 +14,7 @@ pub struct Scanned {
 
 impl Scanned {
     /// A token whose text is that of the source.
+    #[inline]
     pub fn plain(kind: Tok, to: usize) -> Scanned {
         Scanned {
             kind,
@@ -24,6 +25,7 @@ impl Scanned {
     }
 
     /// No token.
+    #[inline]
     pub fn bad(error: ScanError, to: usize) -> Scanned {
         Scanned {
             kind: Tok::Bad,

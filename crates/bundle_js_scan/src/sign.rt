@@ -13,21 +13,30 @@ fn make(kind: Tok, length: usize) -> Sign {
     Sign { kind, length }
 }
 
-/// The longest punctuator that these bytes begin with, 0 where the text has ended; `Bad` where none does.
+/// The punctuator that this byte is wherever it stands; `Bad` where it is none or begins longer ones.
+#[inline]
+pub fn lone_sign(byte: u8) -> Tok {
+    match byte {
+        b'{' => Tok::OpenBrace,
+        b'}' => Tok::CloseBrace,
+        b'(' => Tok::OpenParen,
+        b')' => Tok::CloseParen,
+        b'[' => Tok::OpenBracket,
+        b']' => Tok::CloseBracket,
+        b';' => Tok::Semicolon,
+        b',' => Tok::Comma,
+        b':' => Tok::Colon,
+        b'~' => Tok::Tilde,
+        b'`' => Tok::Back,
+        b'@' => Tok::At,
+        _ => Tok::Bad,
+    }
+}
+
+/// The longest punctuator that these bytes begin with, none of which stands alone, 0 where the text has ended; `Bad`
+/// where none does.
 pub fn punctuator(a: u8, b: u8, c: u8, d: u8) -> Sign {
     match a {
-        b'{' => make(Tok::OpenBrace, 1),
-        b'}' => make(Tok::CloseBrace, 1),
-        b'(' => make(Tok::OpenParen, 1),
-        b')' => make(Tok::CloseParen, 1),
-        b'[' => make(Tok::OpenBracket, 1),
-        b']' => make(Tok::CloseBracket, 1),
-        b';' => make(Tok::Semicolon, 1),
-        b',' => make(Tok::Comma, 1),
-        b':' => make(Tok::Colon, 1),
-        b'~' => make(Tok::Tilde, 1),
-        b'`' => make(Tok::Back, 1),
-        b'@' => make(Tok::At, 1),
         b'.' => dots(b, c),
         b'?' => question(b, c),
         b'=' => equals(b, c),

@@ -5,11 +5,14 @@ use crate::escape::{EscapeStep, Mode, is_high, is_low, next_step, pair};
 use crate::token::{Tok, Token};
 use std::alloc::{AllocError, Global};
 
-/// The texts of tokens whose text is not that of the source, one behind the other.
+/// The texts of tokens whose text is not that of the source, one behind the other in the order of the source.
 #[derive(Drop)]
 pub struct Store {
     texts: String,
+    // Where each of them ends.
     ends: Vec<u32>,
+    // Where the token of each begins in the source.
+    begins: Vec<u32>,
 }
 
 impl Store {
@@ -18,15 +21,16 @@ impl Store {
         Store {
             texts: String::new(alloc),
             ends: Vec::new(alloc),
+            begins: Vec::new(alloc),
         }
     }
 
-    /// The number of the token's text: 0 where it is that of the source, else that of a new text, from 1 on. A
-    /// name's and a string's escapes are replaced by what they give, and a string has no quotes, a private name
-    /// no `#`; a part of a template has line feeds for carriage returns.
-    pub fn cook(&mut self, source: &str, token: Token) -> Result<u32, AllocError> {
+    /// Adds the text of a token behind those before, where it is not that of the source. A name's and a string's escapes
+    /// are replaced by what they give, and a string has no quotes, a private name no `#`; a part of a template has line
+    /// feeds for carriage returns.
+    pub fn cook(&mut self, source: &str, token: Token) -> Result<(), AllocError> {
         if !token.escaped {
-            return Ok(0);
+            return Ok(());
         }
         let text = source.as_bytes();
         let from = token.from as usize;
@@ -37,20 +41,20 @@ impl Store {
             Tok::TplPart | Tok::TplLast => self.push_raw(text, from, token.raw_end() as usize)?,
             _ => self.push_cooked(text, from, to)?,
         }
+        self.begins.push(token.from)?;
         self.ends
             .push(u32::try_from(self.texts.len()).unwrap_or(u32::MAX))?;
-        Ok(u32::try_from(self.ends.len()).unwrap_or(u32::MAX))
+        Ok(())
     }
 
-    /// The text of this number, from 1 on; none where there is no such text.
-    pub fn text(&self, number: u32) -> Option<&str> {
-        let number = number as usize;
-        let from = match number {
-            0 => return None,
-            1 => 0,
-            _ => *self.ends.get(number - 2)? as usize,
+    /// The text of the token that begins at this byte of the source; none where that has none here.
+    pub fn text(&self, byte: u32) -> Option<&str> {
+        let at = self.begins.as_slice().binary_search(&byte).ok()?;
+        let from = match at {
+            0 => 0,
+            _ => *self.ends.get(at - 1)? as usize,
         };
-        let to = *self.ends.get(number - 1)? as usize;
+        let to = *self.ends.get(at)? as usize;
         if from <= to {
             self.texts.as_str().get(from..to)
         } else {

@@ -180,7 +180,7 @@ fn is_async(machine: &Machine<'_>, place: NodeStart) -> bool {
     let last = machine.reader.last();
     last.kind == Kind::BindingIdent
         && place.start.saturating_add(1) == machine.reader.end()
-        && last.text == 0
+        && !last.escaped
         && machine.reader.is_text(last, "async")
 }
 

@@ -54,7 +54,7 @@ fn still_directs(machine: &mut Machine<'_>, place: NodeStart) -> Result<bool, St
     let is_directive = last.kind == Kind::ExprStmt
         && text.kind == Kind::Str
         && last.start.saturating_add(2) == end;
-    if is_directive && text.text == 0 && machine.reader.is_text(text, "use strict") {
+    if is_directive && !text.escaped && machine.reader.is_text(text, "use strict") {
         return Err(machine.reader.refuse(text.from, Stop::UseStrict));
     }
     Ok(is_directive)

@@ -17,13 +17,14 @@ bundle_name (Named name) = string_bytes name
 bundle_name Dynamic = []
 bundle_name (Lib name) = string_bytes name
 
--- the object of a bundle whose module has this form: the decimal digits of its number, its kind, the
--- form and its name
+-- the object of a bundle whose module has this form: the decimal digits of its number, its kind,
+-- the form and its name
 abbrev pub object_of : Bundle → Data → Data
 object_of bundle form =
     object (member (codes "id") (string (decimal bundle.id))
     (member (codes "kind") (string (codes "Named"))
-    (member (codes "module") form (member (codes "name") (string (bundle_name bundle.kind)) no_members))))
+    (member (codes "module") form
+    (member (codes "name") (string (bundle_name bundle.kind)) no_members))))
 
 -- the module of a bundle is this tree
 abbrev pub IsTreeOf : Bundle → Tree → Type 0

@@ -26,8 +26,8 @@ use Rattle.bundler_entry.specs.declared.call.OrderedConfig.{OrderedConfig}
 use Rattle.bundle_json_document.specs.Numbers.{holds_of_read, is_whole}
 use Rattle.bundle_json_document.specs.declared.document.Document.{Document}
 
--- the value of a text: the text is UTF-8 and JSON, and each number in it is whole, also where another member of the same
--- key takes its place
+-- the value of a text: the text is UTF-8 and JSON, and each number in it is whole, also where
+-- another member of the same key takes its place
 pub record IsValueOf (text : List ℕ) (d : Data) : Type 0 where
   pub utf8 : IsUtf8 text
   pub json : read text ≡ Some d
@@ -39,7 +39,9 @@ IsArrayOf R xs d = (ds : List Data) × (d ≡ array (items_of ds)) × AllZip R d
 
 -- the value is an object, and its members stand one by one for these, under their names
 abbrev pub IsMap : {X : Type 0} → (Data → X → Type 0) → List (String Global × X) → Data → Type 0
-IsMap R xs d = (ms : List (String Global × Data)) × (d ≡ object (members_of ms)) × AllZip (λ m x. (string_bytes m.0 ≡ string_bytes x.0) × R m.1 x.1) ms xs
+IsMap R xs d =
+    (ms : List (String Global × Data)) × (d ≡ object (members_of ms))
+    × AllZip (λ m x. (string_bytes m.0 ≡ string_bytes x.0) × R m.1 x.1) ms xs
 
 -- Settings: each may be left out.
 
@@ -100,7 +102,10 @@ AreSettings (Some d) config = IsSome (as_object d) × IsConfig d config
 
 -- a pair of texts, the name and the path of a real file
 abbrev pub IsEntryPair : Data → String Global × FileName → Type 0
-IsEntryPair d entry = (path : List ℕ) × (d ≡ array (item (string (string_bytes entry.0)) (item (string path) no_items))) × (name_of entry.1 ≡ real path)
+IsEntryPair d entry =
+    (path : List ℕ)
+    × (d ≡ array (item (string (string_bytes entry.0)) (item (string path) no_items)))
+    × (name_of entry.1 ≡ real path)
 
 -- what is noted on what is handed in: nothing
 abbrev pub no_document_notes : ExportMetadata
@@ -112,7 +117,9 @@ IsModuleForm d it = IsForm no_document_notes top d (module_items 0 it)
 
 -- the forms of a list of properties
 abbrev pub AreProperties : Data → Vec (KeyValueProp Expr) Global → Type 0
-AreProperties d props = IsSomeAnd (as_array d) (λ ds. AreForms no_document_notes top ds (flat_map (key_value_prop_items 0) props.items))
+AreProperties d props =
+    IsSomeAnd (as_array d)
+    (λ ds. AreForms no_document_notes top ds (flat_map (key_value_prop_items 0) props.items))
 
 -- the value asks for just this; what it has under other names is passed over
 pub record IsDocument (d : Data) (document : Document) : Type 0 where
@@ -144,8 +151,8 @@ abbrev pub HasNoDocument : Option (List ℕ) → Option (List ℕ) → Type 0
 HasNoDocument old new =
     (text : List ℕ) × Consumes old new text × IsAtEnd new × IsNoDocumentText text
 
--- the status and the line of an input that cannot be read, where reading may fail, of a text that is no document, and of
--- want of memory
+-- the status and the line of an input that cannot be read, where reading may fail, of a text that
+-- is no document, and of want of memory
 abbrev pub IsRefusalLine : Type 0 → Type 0 → ℕ → List ℕ → Type 0
 IsRefusalLine may_fail no_document status line =
     ((status ≡ 2) × (line ≡ codes "error: input\n") × may_fail)

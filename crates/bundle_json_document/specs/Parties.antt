@@ -20,7 +20,8 @@ file_module files (custom text) = None
 pub record GivesModule (files : BTreeMap (String Global) Module) (file : Name)
     (given : ModuleData) : Type 0 where
   pub name : name_of given.file_name ≡ file
-  pub tree : IsSomeAnd (file_module files file) (λ its. module_items 0 given.module ≡ module_items 0 its)
+  pub tree :
+      IsSomeAnd (file_module files file) (λ its. module_items 0 given.module ≡ module_items 0 its)
 
 -- there is no module for the file
 pub record LacksModule (files : BTreeMap (String Global) Module) (file : Name) : Type 0 where
@@ -48,4 +49,7 @@ hook_list_of hook (custom text) = None
 
 -- these are trees as in the hook's list for the file, and none where it has no list
 abbrev pub GivesList : MetaHook → Name → List (KeyValueProp Expr) → Type 0
-GivesList hook file given = MatchOption (hook_list_of hook file) (given ≡ []) (λ list. flat_map (key_value_prop_items 0) given ≡ flat_map (key_value_prop_items 0) list.items)
+GivesList hook file given =
+    MatchOption (hook_list_of hook file) (given ≡ [])
+    (λ list.
+    flat_map (key_value_prop_items 0) given ≡ flat_map (key_value_prop_items 0) list.items)

@@ -57,7 +57,9 @@ pub record AreDocumentParts (ms : Members) (parts : DocumentParts) : Type 0 wher
 
 -- the value has the forms of these items, one behind the other
 abbrev pub AreItems : Data → List ModuleItem → Type 0
-AreItems d items = IsSomeAnd (as_array d) (λ ds. AreForms no_document_notes top ds (flat_map (module_item_items 0) items))
+AreItems d items =
+    IsSomeAnd (as_array d)
+    (λ ds. AreForms no_document_notes top ds (flat_map (module_item_items 0) items))
 
 -- the items under a key, none where there is no value
 abbrev pub IsBody : Option Data → List ModuleItem → Type 0
@@ -69,11 +71,15 @@ pub record AreModuleParts (ms : Members) (parts : ModuleParts) : Type 0 where
   pub kind : parts.is_module ≡ true → text_at (codes "type") (object ms) ≡ Some (codes "Module")
   pub body : IsBody (get_member (codes "body") ms) parts.items.body.items
 
--- The value of a member under this key comes next, and what was kept of the members before it becomes what is kept of
--- them and it.
+-- The value of a member under this key comes next, and what was kept of the members before it
+-- becomes what is kept of them and it.
 
 abbrev pub KeepsMember : List Token → List Token → List ℕ → DocumentParts → DocumentParts → Type 0
-KeepsMember ts rest key old new = (d : Data) × IsNextValue 126 ts rest d × ((ms : Members) → AreDocumentParts ms old → AreDocumentParts (put key d ms) new)
+KeepsMember ts rest key old new =
+    (d : Data) × IsNextValue 126 ts rest d
+    × ((ms : Members) → AreDocumentParts ms old → AreDocumentParts (put key d ms) new)
 
 abbrev pub KeepsModuleMember : List Token → List Token → List ℕ → ModuleParts → ModuleParts → Type 0
-KeepsModuleMember ts rest key old new = (d : Data) × IsNextValue 124 ts rest d × ((ms : Members) → AreModuleParts ms old → AreModuleParts (put key d ms) new)
+KeepsModuleMember ts rest key old new =
+    (d : Data) × IsNextValue 124 ts rest d
+    × ((ms : Members) → AreModuleParts ms old → AreModuleParts (put key d ms) new)

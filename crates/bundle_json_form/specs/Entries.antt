@@ -16,5 +16,7 @@ abbrev pub laid_out : r_layout.Layout → List Field
 laid_out l.Nothing = []
 laid_out (l.Single first) = entry_field first ∷ []
 laid_out (l.Pair first second) = entry_field first ∷ entry_field second ∷ []
-laid_out (l.Triple first second third) = entry_field first ∷ entry_field second ∷ entry_field third ∷ []
-laid_out (l.Four first second third fourth) = entry_field first ∷ entry_field second ∷ entry_field third ∷ entry_field fourth ∷ []
+laid_out (l.Triple first second third) =
+    entry_field first ∷ entry_field second ∷ entry_field third ∷ []
+laid_out (l.Four first second third fourth) =
+    entry_field first ∷ entry_field second ∷ entry_field third ∷ entry_field fourth ∷ []

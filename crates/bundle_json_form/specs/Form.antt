@@ -169,11 +169,15 @@ node_fields h.IfStmt =
 node_fields h.SwitchStmt = single_node 0 (codes "discriminant") ∷ list 1 (codes "cases") ∷ []
 node_fields h.SwitchCase = optional 0 (codes "test") ∷ list 1 (codes "cons") ∷ []
 node_fields h.ThrowStmt = single_node 0 (codes "arg") ∷ []
-node_fields h.TryStmt = single_node 0 (codes "block") ∷ optional 1 (codes "handler") ∷ optional 2 (codes "finalizer") ∷ []
+node_fields h.TryStmt =
+    single_node 0 (codes "block") ∷ optional 1 (codes "handler") ∷ optional 2 (codes "finalizer")
+    ∷ []
 node_fields h.CatchClause = optional 0 (codes "param") ∷ single_node 1 (codes "body") ∷ []
 node_fields h.WhileStmt = single_node 0 (codes "test") ∷ single_node 1 (codes "body") ∷ []
 node_fields h.DoWhileStmt = single_node 0 (codes "body") ∷ single_node 1 (codes "test") ∷ []
-node_fields h.ForStmt = optional 0 (codes "init") ∷ optional 1 (codes "test") ∷ optional 2 (codes "update") ∷ single_node 3 (codes "body") ∷ []
+node_fields h.ForStmt =
+    optional 0 (codes "init") ∷ optional 1 (codes "test") ∷ optional 2 (codes "update")
+    ∷ single_node 3 (codes "body") ∷ []
 node_fields h.ForInStmt =
     single_node 0 (codes "left") ∷ single_node 1 (codes "right") ∷ single_node 2 (codes "body") ∷ []
 node_fields (h.ForOfStmt _) =
@@ -265,14 +269,18 @@ scalars (h.YieldExpr delegate) = truth (codes "delegate") delegate ∷ []
 scalars (h.OptChainExpr optional) = truth (codes "optional") optional ∷ []
 scalars (h.ExprOrSpread spread) = truth (codes "spread") spread ∷ []
 scalars (h.NewExpr has_args) = given (codes "args") has_args ∷ []
-scalars (h.Function is_generator is_async) = truth (codes "is_generator") is_generator ∷ truth (codes "is_async") is_async ∷ []
-scalars (h.ClassMethod kind is_static) = text (codes "kind") (method_word kind) ∷ truth (codes "is_static") is_static ∷ []
-scalars (h.PrivateMethod kind is_static) = text (codes "kind") (method_word kind) ∷ truth (codes "is_static") is_static ∷ []
+scalars (h.Function is_generator is_async) =
+    truth (codes "is_generator") is_generator ∷ truth (codes "is_async") is_async ∷ []
+scalars (h.ClassMethod kind is_static) =
+    text (codes "kind") (method_word kind) ∷ truth (codes "is_static") is_static ∷ []
+scalars (h.PrivateMethod kind is_static) =
+    text (codes "kind") (method_word kind) ∷ truth (codes "is_static") is_static ∷ []
 scalars (h.ClassProp is_static) = truth (codes "is_static") is_static ∷ []
 scalars (h.PrivateProp is_static) = truth (codes "is_static") is_static ∷ []
 scalars (h.VarDecl kind _) = text (codes "kind") (declaration_word kind) ∷ []
 scalars (h.UnaryExpr op) = text (codes "op") (unary_text op) ∷ []
-scalars (h.UpdateExpr op prefix) = text (codes "op") (update_text op) ∷ truth (codes "prefix") prefix ∷ []
+scalars (h.UpdateExpr op prefix) =
+    text (codes "op") (update_text op) ∷ truth (codes "prefix") prefix ∷ []
 scalars (h.BinExpr op) = text (codes "op") (binary_text op) ∷ []
 scalars (h.AssignExpr op) = text (codes "op") (assign_text op) ∷ []
 scalars (h.MetaPropExpr kind) = text (codes "kind") (meta_prop_text kind) ∷ []
@@ -336,7 +344,8 @@ pub record IsHeadOf (meta : ExportMetadata) (d : Data) (head : Head) : Type 0 wh
 
 -- Roles of identifiers (ECMA-262, 8.2 and 13.1).
 
--- what an identifier is in a field of a node, where the names of the node itself as a pattern are `names`
+-- what an identifier is in a field of a node, where the names of the node itself as a pattern are
+-- `names`
 abbrev pub ident_role : Head → ℕ → Role → Role
 ident_role h.BindingIdent field names = names
 ident_role h.ImportNamedSpecifier field names = if field == 0 then Binding else Word
@@ -350,8 +359,8 @@ ident_role h.ClassExpr field names = if field == 0 then Binding else Reference
 ident_role h.FnExpr field names = if field == 0 then Binding else Reference
 ident_role _ field names = Reference
 
--- what the names of a pattern are that stands in a field of a node, where those of the node itself are
--- `names`; for an export list, which may have a source, what the names are that it exports
+-- what the names of a pattern are that stands in a field of a node, where those of the node itself
+-- are `names`; for an export list, which may have a source, what the names are that it exports
 abbrev pub names_role : Head → ℕ → Role → Bool → Role
 names_role h.VarDeclarator field names has_source = if field == 0 then Binding else Reference
 names_role h.Param field names has_source = if field == 0 then Binding else Reference
@@ -371,8 +380,8 @@ names_role _ field names has_source = Reference
 -- Trees.
 
 mutual
-  -- an identifier with the number of its context, a place of a list that has no element, or a node with
-  -- what its fields hold
+  -- an identifier with the number of its context, a place of a list that has no element, or a node
+  -- with what its fields hold
   pub data Tree : Type 0 where
     ident : List ℕ → ℕ → Role → Tree
     hole : Tree
@@ -414,9 +423,16 @@ allows_holes s.Optional = false
 allows_holes s.List = false
 allows_holes s.Places = true
 
--- the place of a field in a node that is read from `d`, where the names of the node itself are `names`
+-- the place of a field in a node that is read from `d`, where the names of the node itself are
+-- `names`
 abbrev pub place_in : Head → Role → Data → Field → NodePlace
-place_in head names d it = record { field = it.number; ident = ident_role head it.number names; names = names_role head it.number names (is_value_given (codes "src") d); has_holes = allows_holes it.shape }
+place_in head names d it =
+    record {
+      field = it.number;
+      ident = ident_role head it.number names;
+      names = names_role head it.number names (is_value_given (codes "src") d);
+      has_holes = allows_holes it.shape;
+    }
 
 -- the values that stand for nodes under a key, if what is there has the shape
 abbrev pub values : Shape → Option Data → Option Items
@@ -437,13 +453,14 @@ pub record IsIdent (at : NodePlace) (d : Data) (sym : List ℕ) (ctxt : ℕ)
   pub no_context : ctxt ≡ 0
   pub in_role : role ≡ at.ident
 
--- `d` is the form of this tree in this place, where `meta` is noted on its declarations. Members of other
--- keys are passed over
+-- `d` is the form of this tree in this place, where `meta` is noted on its declarations. Members of
+-- other keys are passed over
 abbrev mutual
   pub Reads : ExportMetadata → NodePlace → Data → Tree → Type 0
   Reads meta at d (ident sym ctxt role) = IsIdent at d sym ctxt role
   Reads meta at d hole = (at.has_holes ≡ true) × (is_null d ≡ true)
-  Reads meta at d (node head inside) = IsHeadOf meta d head × ReadsFields meta at.names d head (node_fields head) inside
+  Reads meta at d (node head inside) =
+      IsHeadOf meta d head × ReadsFields meta at.names d head (node_fields head) inside
 
   -- the fields of a node have their numbers, and what stands under their keys
   pub ReadsFields : ExportMetadata → Role → Data → Head → List Field → Fields → Type 0
@@ -451,7 +468,9 @@ abbrev mutual
   ReadsFields meta names d head [] (in_field number them rest) = ⊥
   ReadsFields meta names d head (it ∷ more) no_fields = ⊥
   ReadsFields meta names d head (it ∷ more) (in_field number them rest) =
-      (number ≡ it.number) × IsSomeAnd (values it.shape (get it.key d)) (λ ds. ReadsEach meta (place_in head names d it) ds them)
+      (number ≡ it.number)
+      × IsSomeAnd (values it.shape (get it.key d))
+      (λ ds. ReadsEach meta (place_in head names d it) ds them)
       × ReadsFields meta names d head more rest
 
   -- the values are one by one the forms of these trees
@@ -469,7 +488,8 @@ pub record IsForm (meta : ExportMetadata) (at : NodePlace) (d : Data)
   pub listed : items ≡ tree_items at.field it
 
 -- `ds` are one by one the forms of the nodes in this place whose list is `items`
-pub record AreForms (meta : ExportMetadata) (at : NodePlace) (ds : Items) (items : List Item) : Type 0 where
+pub record AreForms
+    (meta : ExportMetadata) (at : NodePlace) (ds : Items) (items : List Item) : Type 0 where
   pub them : Trees
   pub read : ReadsEach meta at ds them
   pub listed : items ≡ trees_items at.field them
@@ -478,7 +498,8 @@ pub record AreForms (meta : ExportMetadata) (at : NodePlace) (ds : Items) (items
 
 -- a context is written where it is not 0
 abbrev pub with_context : ℕ → Members → Members
-with_context ctxt members = if ctxt == 0 then members else put (codes "ctxt") (numeric (unsigned ctxt)) members
+with_context ctxt members =
+    if ctxt == 0 then members else put (codes "ctxt") (numeric (unsigned ctxt)) members
 
 abbrev pub with_scalar : Scalar → Members → Members
 with_scalar (text key it) members = put key (string it) members
@@ -500,17 +521,25 @@ in_shape s.Optional (item d ds) = d
 in_shape s.List ds = array ds
 in_shape s.Places ds = array ds
 
--- the value of a tree: an object with these members and no others, or `null` for a place that has no element
+-- the value of a tree: an object with these members and no others, or `null` for a place that has
+-- no element
 abbrev mutual
   pub written : Tree → Data
-  written (ident sym ctxt role) = object (with_context ctxt (put (codes "sym") (string sym) (put (codes "type") (string (codes "Ident")) no_members)))
+  written (ident sym ctxt role) =
+      object
+      (with_context ctxt
+      (put (codes "sym") (string sym) (put (codes "type") (string (codes "Ident")) no_members)))
   written hole = null
-  written (node head inside) = object (with_fields (node_fields head) inside (with_scalars (scalars head) (put (codes "type") (string (name head)) no_members)))
+  written (node head inside) =
+      object
+      (with_fields (node_fields head) inside
+      (with_scalars (scalars head) (put (codes "type") (string (name head)) no_members)))
 
   pub with_fields : List Field → Fields → Members → Members
   with_fields [] inside members = members
   with_fields (it ∷ more) no_fields members = members
-  with_fields (it ∷ more) (in_field number them rest) members = with_fields more rest (put it.key (in_shape it.shape (each_written them)) members)
+  with_fields (it ∷ more) (in_field number them rest) members =
+      with_fields more rest (put it.key (in_shape it.shape (each_written them)) members)
 
   pub each_written : Trees → Items
   each_written no_trees = no_items
@@ -533,7 +562,8 @@ abbrev mutual
   AreLaidOut [] no_fields = Unit {0}
   AreLaidOut [] (in_field number them rest) = ⊥
   AreLaidOut (it ∷ more) no_fields = ⊥
-  AreLaidOut (it ∷ more) (in_field number them rest) = (number ≡ it.number) × Fits it.shape them × EachLaidOut them × AreLaidOut more rest
+  AreLaidOut (it ∷ more) (in_field number them rest) =
+      (number ≡ it.number) × Fits it.shape them × EachLaidOut them × AreLaidOut more rest
 
   pub EachLaidOut : Trees → Type 0
   EachLaidOut no_trees = Unit {0}
@@ -541,4 +571,8 @@ abbrev mutual
 
 -- `value` is the form of the node whose list is `items`, if it is that of one
 abbrev pub IsFormWritten : Data → List Item → Type 0
-IsFormWritten value items = (field : ℕ) (head : Head) (inside : Fields) → items ≡ tree_items field (node head inside) → IsLaidOut (node head inside) → value ≡ written (node head inside)
+IsFormWritten value items =
+    (field : ℕ) (head : Head) (inside : Fields) →
+    items ≡ tree_items field (node head inside) →
+    IsLaidOut (node head inside) →
+    value ≡ written (node head inside)

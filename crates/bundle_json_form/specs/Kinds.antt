@@ -23,7 +23,8 @@ letter_at place kind = get_or (name kind) place 0
 -- the first of the kinds that has this letter at that place
 abbrev pub with_letter : ℕ → ℕ → List Head → Option Head
 with_letter place it [] = None
-with_letter place it (kind ∷ more) = if it == letter_at place kind then Some kind else with_letter place it more
+with_letter place it (kind ∷ more) =
+    if it == letter_at place kind then Some kind else with_letter place it more
 
 -- the first of the kinds that has these letters at those places
 abbrev pub with_letters : ℕ → ℕ → ℕ → ℕ → List Head → Option Head
@@ -49,8 +50,8 @@ of_six third =
 abbrev pub of_seven : ℕ → Option Head
 of_seven first =
     with_letter 0 first
-    (h.TryStmt ∷ h.ForStmt ∷ h.VarDecl Var no_form_notes ∷ h.BinExpr EqEq ∷ h.NewExpr false ∷ h.SeqExpr
-    ∷ h.OptCall ∷ h.RestPat ∷ [])
+    (h.TryStmt ∷ h.ForStmt ∷ h.VarDecl Var no_form_notes ∷ h.BinExpr EqEq ∷ h.NewExpr false
+    ∷ h.SeqExpr ∷ h.OptCall ∷ h.RestPat ∷ [])
 
 abbrev pub of_eight : ℕ → ℕ → Option Head
 of_eight second sixth =
@@ -106,9 +107,13 @@ of_many it =
     if length it == 15 then Some h.KeyValuePatProp
     else if length it == 16 then Some h.ComputedPropName
     else if length it == 17 then
-    (if is_letter_at 68 (slice_get it 13) then Some h.ExportDefaultDecl else Some h.ExportDefaultExpr)
+    (if is_letter_at 68 (slice_get it 13)
+    then Some h.ExportDefaultDecl
+    else Some h.ExportDefaultExpr)
     else if length it == 20 then
-    (if is_letter_at 73 (slice_get it 0) then Some h.ImportNamedSpecifier else Some h.ExportNamedSpecifier)
+    (if is_letter_at 73 (slice_get it 0)
+    then Some h.ImportNamedSpecifier
+    else Some h.ExportNamedSpecifier)
     else if length it == 21 then Some h.ImportStarAsSpecifier
     else if length it == 22 then Some h.ImportDefaultSpecifier
     else if length it == 24 then Some h.ExportNamespaceSpecifier

@@ -1,5 +1,5 @@
--- The data that a value of a text stands for: what `serde_json` reads, with a number beyond all floats as the
--- infinite float.
+-- The data that a value of a text stands for: what `serde_json` reads, with a number beyond all
+-- floats as the infinite float.
 use Rattle.std.specs.Prelude.{List, false, unwrap_or}
 use Rattle.std.specs.Float.{inf}
 use Rattle.std.specs.declared.alloc.Global.{Global}

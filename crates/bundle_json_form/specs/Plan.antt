@@ -58,7 +58,8 @@ put_fields (it ∷ more) members =
 -- the members of the object of a node
 abbrev pub plan : Head → List Member
 plan head =
-    put_fields (node_fields head) (put_scalars (scalars head) (put_member (codes "type") (a_text (name head)) []))
+    put_fields (node_fields head)
+    (put_scalars (scalars head) (put_member (codes "type") (a_text (name head)) []))
 
 -- at this place stands the member of the key
 pub record IsMemberAt (key : List ℕ) (members : List Member) (place : ℕ) : Type 0 where

@@ -27,7 +27,9 @@ pub record IsFilled (meta : ExportMetadata) (d : Data) (kind head : Head) : Type
   pub noted : HasNotes meta head
 
 -- `d` has under the keys of these fields the forms of the nodes whose list is `items`
-pub record AreFields (meta : ExportMetadata) (names : Role) (d : Data) (head : Head) (them : List Field) (items : List Item) : Type 0 where
+pub record AreFields
+    (meta : ExportMetadata) (names : Role) (d : Data) (head : Head) (them : List Field)
+    (items : List Item) : Type 0 where
   pub inside : Fields
   pub read : ReadsFields meta names d head them inside
   pub listed : items ≡ fields_items inside
@@ -53,14 +55,16 @@ HasScalar d (given key _) = Unit {0}
 
 -- `d` has such scalars as nodes of this kind have
 abbrev pub HasScalars : Data → Head → Type 0
-HasScalars d (h.VarDecl _ _) = (kind : VarDeclKind) × (text_at (codes "kind") d ≡ Some (declaration_word kind))
+HasScalars d (h.VarDecl _ _) =
+    (kind : VarDeclKind) × (text_at (codes "kind") d ≡ Some (declaration_word kind))
 HasScalars d (h.UnaryExpr _) = (op : UnaryOp) × (text_at (codes "op") d ≡ Some (unary_text op))
 HasScalars d (h.UpdateExpr _ prefix) =
     ((op : UpdateOp) × (text_at (codes "op") d ≡ Some (update_text op)))
     × HasScalar d (truth (codes "prefix") prefix)
 HasScalars d (h.BinExpr _) = (op : BinaryOp) × (text_at (codes "op") d ≡ Some (binary_text op))
 HasScalars d (h.AssignExpr _) = (op : AssignOp) × (text_at (codes "op") d ≡ Some (assign_text op))
-HasScalars d (h.MetaPropExpr _) = (kind : MetaPropKind) × (text_at (codes "kind") d ≡ Some (meta_prop_text kind))
+HasScalars d (h.MetaPropExpr _) =
+    (kind : MetaPropKind) × (text_at (codes "kind") d ≡ Some (meta_prop_text kind))
 HasScalars d (h.ClassMethod _ is_static) =
     ((kind : MethodKind) × (text_at (codes "kind") d ≡ Some (method_word kind)))
     × HasScalar d (truth (codes "is_static") is_static)
@@ -79,4 +83,5 @@ HasNoNodes meta at ds = (them : Trees) → ¬ ReadsEach meta at ds them
 
 -- what is found under a key is not what this place asks for
 abbrev pub HasNoField : ExportMetadata → NodePlace → Shape → Option Data → Type 0
-HasNoField meta at shape found = (them : Trees) → ¬ IsSomeAnd (values shape found) (λ ds. ReadsEach meta at ds them)
+HasNoField meta at shape found =
+    (them : Trees) → ¬ IsSomeAnd (values shape found) (λ ds. ReadsEach meta at ds them)

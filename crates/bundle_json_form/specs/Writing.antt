@@ -28,7 +28,8 @@ pub record Frame : Type 0 where
   pub children : List ValueChild
 
 abbrev pub frame_of : OpenNode → Frame
-frame_of it = record { field = it.field; head = head_of it.node; children = map child_of it.children.items }
+frame_of it =
+    record { field = it.field; head = head_of it.node; children = map child_of it.children.items }
 
 -- the open nodes, the innermost first
 abbrev pub frames : List OpenNode → List Frame
@@ -38,7 +39,8 @@ frames (it ∷ more) = frames more ++ frame_of it ∷ []
 -- one more value in the innermost node
 abbrev pub with_child : ValueChild → List Frame → List Frame
 with_child it [] = []
-with_child it (top ∷ below) = record { field = top.field; head = top.head; children = top.children ++ it ∷ [] } ∷ below
+with_child it (top ∷ below) =
+    record { field = top.field; head = top.head; children = top.children ++ it ∷ [] } ∷ below
 
 -- the first value, if it lies in the field
 abbrev pub first_child_in : ℕ → List ValueChild → Option Data
@@ -74,8 +76,13 @@ rest_in s.Places field children = after_all_in field children
 
 abbrev pub with_children : List Field → List ValueChild → Members → Members
 with_children [] children members = members
-with_children (it ∷ more) children members = with_children more (rest_in it.shape it.number children) (put it.key (value_in it.shape it.number children) members)
+with_children (it ∷ more) children members =
+    with_children more (rest_in it.shape it.number children)
+    (put it.key (value_in it.shape it.number children) members)
 
 -- a node that is complete
 abbrev pub node_form : Head → List ValueChild → Data
-node_form head children = object (with_children (node_fields head) children (with_scalars (scalars head) (put (codes "type") (string (name head)) no_members)))
+node_form head children =
+    object
+    (with_children (node_fields head) children
+    (with_scalars (scalars head) (put (codes "type") (string (name head)) no_members)))

@@ -79,7 +79,8 @@ fn read_node<'v, 'a>(
     object: NodeValue<'v, 'a>,
     place: NodePlace,
 ) -> Result<(), FormError>
-    ensures read { OnOk result (GrowsBy (IsForm object.entry.meta.now place (seen object.entry.value.now))
+    ensures read { OnOk result
+        (GrowsBy (IsForm object.entry.meta.now place (seen object.entry.value.now))
         (map item_of pieces.old.items) (map item_of pieces.new.items)) }
     ensures refused { IfErr result (RefusesReading
         (HasNoNode object.entry.meta.now place (seen object.entry.value.now))) }
@@ -106,7 +107,8 @@ fn read_ident<'v, 'a>(
     place: NodePlace,
 ) -> Result<(), FormError>
     requires { text_at (codes "type") (seen object.value.now) ≡ Some (codes "Ident") }
-    ensures read { OnOk result (GrowsBy (IsForm object.entry.meta.now place (seen object.entry.value.now))
+    ensures read { OnOk result
+        (GrowsBy (IsForm object.entry.meta.now place (seen object.entry.value.now))
         (map item_of pieces.old.items) (map item_of pieces.new.items)) }
     ensures refused { IfErr result (RefusesReading
         (HasNoNode object.entry.meta.now place (seen object.entry.value.now))) }
@@ -131,7 +133,8 @@ fn read_ident<'v, 'a>(
 // Where the nodes in a field of `node` stand, whose names as a pattern are `names`.
 fn place_in(object: NodeValue<'_, '_>, node: &Node, names: Role, field: Field) -> NodePlace
     ensures { result
-        ≡ place_of_field (head_of node.now) names (seen object.entry.value.now) (layout_field field) }
+        ≡ place_of_field (head_of node.now) names (seen object.entry.value.now)
+        (layout_field field) }
 {
     let number = field.number;
     NodePlace {

@@ -130,7 +130,8 @@ fn field_value(
 
 // The first of the values, if it lies in the field.
 fn take(children: &mut VecDeque<(u8, Value)>, field: u8) -> Option<Value>
-    ensures value { option_map view result ≡ first_child_in field (map child_of children.old.items) }
+    ensures value { option_map view result
+        ≡ first_child_in field (map child_of children.old.items) }
     ensures rest { map child_of children.new.items
         ≡ after_first_in field (map child_of children.old.items) }
 {

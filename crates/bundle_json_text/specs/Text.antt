@@ -29,7 +29,8 @@ Reads text it = (value : Json) × (document text ≡ Some value) × IsFormOf (pl
 abbrev pub ReadsNone : List ℕ → Type 0
 ReadsNone text = (it : Module) → ¬ Reads text it
 
--- the text is the compact one of the module's form: with no space, every field and the keys of each object in their order
+-- the text is the compact one of the module's form: with no space, every field and the keys of each
+-- object in their order
 pub record IsModuleText (it : Module) (text : List ℕ) : Type 0 where
   pub tree : Tree
   pub listed : module_items 0 it ≡ tree_items 0 tree

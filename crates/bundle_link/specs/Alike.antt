@@ -4,7 +4,8 @@ use Rattle.bundle_rules.specs.Nodes.{Text}
 use Rattle.bundle_rules.specs.Judging.{requests_in}
 use Rattle.bundle_rules.specs.Program.{Program, tree_of}
 
--- where R says which module of the second program a module of the first is: the settings, the entries, the trees and where the requests of each lead are the same
+-- where R says which module of the second program a module of the first is: the settings, the
+-- entries, the trees and where the requests of each lead are the same
 pub record IsAlike (p q : Program) (R : ℕ → ℕ → Type 0) : Type 0 where
   pub one : (a b c : ℕ) → R a b → R a c → b ≡ c
   pub other : (a b c : ℕ) → R b a → R c a → b ≡ c

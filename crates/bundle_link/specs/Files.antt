@@ -21,15 +21,19 @@ file_number file = file.1
 abbrev pub numbers_of : List (FileName × ℕ) → List ℕ
 numbers_of files = map file_number files
 
--- these are the requests of a module, in their order, and each leads where it leads in the program, to one of these modules
+-- these are the requests of a module, in their order, and each leads where it leads in the program,
+-- to one of these modules
 pub record IsLed (p : Program) (numbers : List ℕ) (m : ℕ) (deps : Deps) : Type 0 where
   pub asked : map (λ dep. string_bytes dep.0) deps ≡ requests_in p.settings (tree_of p m)
   pub leads : (dep : String Global × ℕ) →
       Contains deps dep →
       (p.leads m (string_bytes dep.0) ≡ Some dep.1) × Contains numbers dep.1
 
--- the files are those of the program under their numbers, which differ, and the requests of each lead where they lead in the program, to files that are there
-pub record AreFilesOf (p : Program) (files : List (FileName × ℕ)) (deps : List (Vec (String Global × ℕ) Global)) : Type 0 where
+-- the files are those of the program under their numbers, which differ, and the requests of each
+-- lead where they lead in the program, to files that are there
+pub record AreFilesOf
+    (p : Program) (files : List (FileName × ℕ))
+    (deps : List (Vec (String Global × ℕ) Global)) : Type 0 where
   pub once : HasNoDoubles (numbers_of files)
   pub named : (place : ℕ) (e : FileName × ℕ) →
       slice_get files place ≡ Some e →
@@ -45,7 +49,9 @@ abbrev pub module_led_to : String Global × ℕ → ℕ
 module_led_to dep = dep.1
 
 -- of the first n modules just the requests are noted that lead from these numbers
-pub record IsFileGraph (ids : List ℕ) (deps : List (Vec (String Global × ℕ) Global)) (n : ℕ) (graph : Modules) : Type 0 where
+pub record IsFileGraph
+    (ids : List ℕ) (deps : List (Vec (String Global × ℕ) Global)) (n : ℕ)
+    (graph : Modules) : Type 0 where
   pub own : (i m : ℕ) (its : Vec (String Global × ℕ) Global) →
       i < n →
       slice_get ids i ≡ Some m →

@@ -4,7 +4,8 @@ use Rattle.bundle_tree_names.specs.FileName.{Name}
 use Rattle.bundle_rules.specs.Program.{Program}
 use Rattle.bundle_rules.specs.Faults.{Fault, ProgramFault, JudgedNotAfter}
 
--- a fault of module m, as it is told of a file, is the first in the order of judging among the first n modules, which stand in their order
+-- a fault of module m, as it is told of a file, is the first in the order of judging among the
+-- first n modules, which stand in their order
 pub record IsFirstOf (q : Program) (n m : ℕ) (says : Name → Fault) : Type 0 where
   pub within : m < n
   pub stage : ℕ
@@ -17,4 +18,5 @@ pub record IsFirstOf (q : Program) (n m : ℕ) (says : Name → Fault) : Type 0 
 
 -- none of the first n modules has a fault
 abbrev pub HasNoFault : Program → ℕ → Type 0
-HasNoFault q n = (j stage place : ℕ) (file : Name) (f : Fault) → j < n → ProgramFault q file j stage place f → ⊥
+HasNoFault q n =
+    (j stage place : ℕ) (file : Name) (f : Fault) → j < n → ProgramFault q file j stage place f → ⊥

@@ -17,7 +17,8 @@ abbrev pub asked_modules : List ℕ → BTreeMap (String Global) ℕ → List (B
 asked_modules ids leads texts = filter_map (λ text. asked_for ids leads text.now) texts
 
 -- of the first n modules just the requests are noted that lead to these numbers
-pub record IsRequestGraph (ids : List ℕ) (modules : List LinkModule) (n : ℕ) (graph : Modules) : Type 0 where
+pub record IsRequestGraph
+    (ids : List ℕ) (modules : List LinkModule) (n : ℕ) (graph : Modules) : Type 0 where
   pub own : (i m : ℕ) (its : LinkModule) →
       i < n →
       slice_get ids i ≡ Some m →

@@ -39,7 +39,8 @@ abbrev pub noted_as : ModuleKind → DoubledNames → Option Doubled
 noted_as Es noted = noted.es
 noted_as Cjs noted = noted.common_js
 
--- the first name is noted that a module of a program declares twice as what it is, and none where it declares none twice
+-- the first name is noted that a module of a program declares twice as what it is, and none where
+-- it declares none twice
 abbrev pub IsNotedOf : Program → ℕ → DoubledNames → Type 0
 IsNotedOf q m noted = (kind : ModuleKind) → HasKind q m kind →
     option_map doubled_told (noted_as kind noted)
@@ -51,8 +52,11 @@ AreNotesOf q notes =
     (m : ℕ) (noted : DoubledNames) → slice_get notes m ≡ Some noted → IsNotedOf q m noted
 
 -- the modules and what is noted of them are those of a program, the last of them that of the entry
-pub record AreReadOf (q : Program) (modules : List LinkModule) (notes : List DoubledNames) (setting : Setting) : Type 0 where
-  pub program : IsLinkProgram q modules (numbers_below (length modules)) (length modules - 1) setting.require
+pub record AreReadOf
+    (q : Program) (modules : List LinkModule) (notes : List DoubledNames)
+    (setting : Setting) : Type 0 where
+  pub program :
+      IsLinkProgram q modules (numbers_below (length modules)) (length modules - 1) setting.require
   pub iife : q.settings.iife ≡ setting.iife
   pub readable : AreTreesReadable q (length modules)
   pub long : length notes ≡ length modules
@@ -73,8 +77,8 @@ abbrev pub TellsFirstFault : Program → ℕ → Option ModuleFault → Type 0
 TellsFirstFault q n None = HasNoFault q n
 TellsFirstFault q n (Some told) = IsFirstOf q n (fault_place told) (says told)
 
--- none of the modules, which stand in their order, has a fault, and what is linked, and what of it is
--- handed on, is theirs
+-- none of the modules, which stand in their order, has a fault, and what is linked, and what of it
+-- is handed on, is theirs
 pub record AreLinkedAs (q : Program) (n : ℕ) (linking : Linking) : Type 0 where
   pub faultless : HasNoFault q n
   pub modules : AreModules q
@@ -88,7 +92,8 @@ IsJudgedAs q n (Err told) = TellsFirstFault q n (Some told)
 
 -- none of the modules before the place declares a name twice
 abbrev pub HasNoDoubled : Program → ℕ → Type 0
-HasNoDoubled q n = (m : ℕ) (kind : ModuleKind) → m < n → HasKind q m kind → first_doubled kind (tree_of q m) ≡ None
+HasNoDoubled q n =
+    (m : ℕ) (kind : ModuleKind) → m < n → HasKind q m kind → first_doubled kind (tree_of q m) ≡ None
 
 -- the first module that declares a name twice, with the name
 pub record IsFirstDoubled (q : Program) (n m : ℕ) (doubled : Doubled) : Type 0 where

@@ -30,10 +30,15 @@ is_import_specifier _ = false
 
 -- each node in field 0 is an import specifier
 abbrev pub HasSpecifiers : List Item → Type 0
-HasSpecifiers inside = (part : List Item) → Contains (side_by_side 0 inside) part → begins_in 0 part ≡ true → begins_with is_import_specifier part ≡ true
+HasSpecifiers inside =
+    (part : List Item) →
+    Contains (side_by_side 0 inside) part →
+    begins_in 0 part ≡ true →
+    begins_with is_import_specifier part ≡ true
 
--- what stands in a node where others rely on it: nothing in a word and in `import.meta`, an object and a property in a member,
--- the local name in front in an import specifier, and specifiers in an import
+-- what stands in a node where others rely on it: nothing in a word and in `import.meta`, an object
+-- and a property in a member, the local name in front in an import specifier, and specifiers in an
+-- import
 abbrev pub HasParts : Head → List Item → Type 0
 HasParts (h.IdentName x) inside = inside ≡ []
 HasParts (h.MetaPropExpr kind) inside = inside ≡ []

@@ -21,14 +21,19 @@ abbrev pub IsPlacedBy : List ℕ → NumberedModule → BTreeMap (String Global)
 IsPlacedBy ids its leads = (s : Text) →
     get_by_text leads s ≡ last_told (module_place ids) its.deps.now s
 
--- the table of a module is that of its tree, its requests too, and its texts lead where they lead in the program
+-- the table of a module is that of its tree, its requests too, and its texts lead where they lead
+-- in the program
 pub record IsNumberedOf (p : Program) (its : NumberedModule) : Type 0 where
   pub table : IsTableOf p its.id its.tables.now
-  pub requests : map (λ text. text.now) its.tables.now.requests.items ≡ requests_of p.settings (is_free (tree_of p its.id)) (tree_of p its.id)
+  pub requests :
+      map (λ text. text.now) its.tables.now.requests.items
+      ≡ requests_of p.settings (is_free (tree_of p its.id)) (tree_of p its.id)
   pub leads : (s : Text) → p.leads its.id s ≡ led its.deps.now s
 
--- the modules are those of the program: their numbers differ, the entry and all that specifiers lead to are among them, and no other number has a tree
-pub record AreNumberedOf (p : Program) (modules : List NumberedModule) (entry : ℕ) (require : Bool) : Type 0 where
+-- the modules are those of the program: their numbers differ, the entry and all that specifiers
+-- lead to are among them, and no other number has a tree
+pub record AreNumberedOf
+    (p : Program) (modules : List NumberedModule) (entry : ℕ) (require : Bool) : Type 0 where
   pub each : (i : ℕ) (its : NumberedModule) → slice_get modules i ≡ Some its → IsNumberedOf p its
   pub apart : HasNoDoubles (numbers modules)
   pub others : (m : ℕ) → (Contains (numbers modules) m → ⊥) → tree_of p m ≡ []

@@ -17,12 +17,18 @@ name_says n.Whole = e.Whole
 
 -- an import
 abbrev pub import_says : Import → e.ImportEntry
-import_says import = record { local = string_bytes import.local; specifier = string_bytes import.specifier; taken = name_says import.name }
+import_says import =
+    record {
+      local = string_bytes import.local;
+      specifier = string_bytes import.specifier;
+      taken = name_says import.name;
+    }
 
 -- an export of a name
 abbrev pub export_says : Text → ExportEntry → e.ExportEntry
 export_says name (x.Local of) = e.Local name (string_bytes of)
-export_says name (x.Indirect specifier taken) = e.Indirect name (string_bytes specifier) (name_says taken)
+export_says name (x.Indirect specifier taken) =
+    e.Indirect name (string_bytes specifier) (name_says taken)
 
 -- an export under its name
 abbrev pub entry_says : String Global × ExportEntry → e.ExportEntry
@@ -34,4 +40,5 @@ entry_key entry = string_bytes entry.0
 
 -- the exports of a module: those with a name, and the stars
 abbrev pub exports_say : Exports → List e.ExportEntry × List Text
-exports_say exports = (map entry_says exports.items.entries, map (λ star. string_bytes star) exports.stars.items)
+exports_say exports =
+    (map entry_says exports.items.entries, map (λ star. string_bytes star) exports.stars.items)

@@ -30,14 +30,17 @@ is_one_call Iife = true
 abbrev pub module_numbers : List TransformedModule → List ℕ
 module_numbers modules = map (λ its. its.id) modules
 
--- the file and the tree of the module are those of the program, and its texts lead where they lead in the program
+-- the file and the tree of the module are those of the program, and its texts lead where they lead
+-- in the program
 pub record IsTransformedOf (p : Program) (its : TransformedModule) : Type 0 where
   pub file : file_of p its.id ≡ Some (name_of its.file_name)
   pub tree : tree_of p its.id ≡ module_items 0 its.tree.now
   pub leads : (s : Text) → p.leads its.id s ≡ led its.deps.items s
 
--- the modules, the settings and the entry are those of the program: the numbers of the modules differ, the entry and all that specifiers lead to are among them, and no other number has a tree
-pub record AreTransformedOf (p : Program) (modules : List TransformedModule) (config : Config) (entry : ℕ) : Type 0 where
+-- the modules, the settings and the entry are those of the program: the numbers of the modules
+-- differ, the entry and all that specifiers lead to are among them, and no other number has a tree
+pub record AreTransformedOf
+    (p : Program) (modules : List TransformedModule) (config : Config) (entry : ℕ) : Type 0 where
   pub links : Links config p.settings
   pub iife : p.settings.iife ≡ is_one_call config.module
   pub each : (i : ℕ) (its : TransformedModule) → slice_get modules i ≡ Some its →
@@ -50,11 +53,15 @@ pub record AreTransformedOf (p : Program) (modules : List TransformedModule) (co
 
 -- the tables are those of the tree of the module
 abbrev pub HasTables : Config → TransformedModule → Tables → Type 0
-HasTables config its tables = AreTablesOf config (name_of its.file_name) (module_items 0 its.tree.now) tables
+HasTables config its tables =
+    AreTablesOf config (name_of its.file_name) (module_items 0 its.tree.now) tables
 
 -- none of these modules has a fault by itself
 abbrev pub AreModulesFaultless : List TransformedModule → Type 0
-AreModulesFaultless modules = (its : TransformedModule) → Contains modules its → IsFaultless (name_of its.file_name) (module_items 0 its.tree.now)
+AreModulesFaultless modules =
+    (its : TransformedModule) →
+    Contains modules its →
+    IsFaultless (name_of its.file_name) (module_items 0 its.tree.now)
 
 -- the refusal tells of the first fault of a module's tree, where no module in front of it has one
 pub record HasFirstFaulty (modules : List TransformedModule) (error : Error) : Type 0 where
@@ -68,7 +75,9 @@ pub record HasFirstFaulty (modules : List TransformedModule) (error : Error) : T
 abbrev pub IsRefusalOfFirst : List TransformedModule → Error → Type 0
 IsRefusalOfFirst modules error = (error ≡ OutOfMemory) ⊎ HasFirstFaulty modules error
 
--- what the linker tells is of the program, whose trees are those of modules; its modules and settings are those of the program, none of them has a fault by itself, they stand at the places of their numbers, and their files are those of the program
+-- what the linker tells is of the program, whose trees are those of modules; its modules and
+-- settings are those of the program, none of them has a fault by itself, they stand at the places
+-- of their numbers, and their files are those of the program
 pub record IsLinkerOf (p : Program) (linker : Linker) : Type 0 where
   pub modules : AreTransformedOf p linker.modules.items linker.config linker.entry
   pub faultless : AreModulesFaultless linker.modules.items
@@ -77,7 +86,8 @@ pub record IsLinkerOf (p : Program) (linker : Linker) : Type 0 where
   pub trees : (m : ℕ) → IsModuleTree (tree_of p m)
   pub files : (place m : ℕ) →
       IsModuleAt linker.linked.ids.keys m place →
-      (its : TransformedModule) × (slice_get linker.modules.items place ≡ Some its) × (file_of p m ≡ Some (name_of its.file_name))
+      (its : TransformedModule) × (slice_get linker.modules.items place ≡ Some its)
+      × (file_of p m ≡ Some (name_of its.file_name))
 
 -- the same, where no module has a default without a name beside an import that binds `default`
 pub record IsSoundLinkerOf (p : Program) (linker : Linker) : Type 0 where

@@ -18,10 +18,15 @@ deps_at None = []
 deps_at (Some its) = its.items
 
 -- the texts that are noted at a place lead to the places of their modules among these numbers
-abbrev pub LeadsBy : List (Vec (String Global × ℕ) Global) → List ℕ → ℕ → BTreeMap (String Global) ℕ → Type 0
-LeadsBy deps ids place leads = (s : Text) → get_by_text leads s ≡ last_told (module_place ids) (deps_at (slice_get deps place)) s
+abbrev pub LeadsBy :
+    List (Vec (String Global × ℕ) Global) → List ℕ → ℕ → BTreeMap (String Global) ℕ → Type 0
+LeadsBy deps ids place leads =
+    (s : Text) →
+    get_by_text leads s ≡ last_told (module_place ids) (deps_at (slice_get deps place)) s
 
--- the list is that of the program; its modules stand at these places among these numbers, and the requests of each lead to the places of the list at which the modules stand to which they lead in the program
+-- the list is that of the program; its modules stand at these places among these numbers, and the
+-- requests of each lead to the places of the list at which the modules stand to which they lead in
+-- the program
 pub record IsReachedOf (p : Program) (numbers : List ℕ) (found : Reached) : Type 0 where
   pub is_list : IsList p found.list.items
   pub reached : (n : ℕ) → Contains found.list.items n ↔ IsReached p n

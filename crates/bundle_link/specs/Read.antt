@@ -16,18 +16,26 @@ use Rattle.bundle_rules.specs.Nodes.{each_once}
 use Rattle.bundle_rules.specs.Tables.{is_star, star_of}
 use Rattle.bundle_link.specs.Refusals.{Links}
 
--- the tree has no fault, and these are its requests, imports, exports that have a name, stars, what it asks for and its literal calls; whether it is a script, uses a name of CommonJS, awaits outside functions, and uses `arguments` that nothing binds; the names that it asks of others, and where imported names are used, with the reads around each
-pub record AreTablesOf (config : Config) (file : Name) (tree : List Item) (tables : Tables) : Type 0 where
+-- the tree has no fault, and these are its requests, imports, exports that have a name, stars, what
+-- it asks for and its literal calls; whether it is a script, uses a name of CommonJS, awaits
+-- outside functions, and uses `arguments` that nothing binds; the names that it asks of others, and
+-- where imported names are used, with the reads around each
+pub record AreTablesOf
+    (config : Config) (file : Name) (tree : List Item) (tables : Tables) : Type 0 where
   pub faultless : IsFaultless file tree
   pub requests : (settings : Settings) →
       Links config settings →
       map (λ request. request.now) tables.requests.items ≡ requests_of settings (is_free tree) tree
   pub imports : map import_entry_of tables.imports.items ≡ imports_of tree
-  pub exports : map export_entry_of tables.exports.items ≡ filter (λ entry. not (is_star entry)) (exports_of tree)
-  pub stars : map (λ star. star.now) tables.stars.items ≡ each_once (flat_map star_of (exports_of tree))
+  pub exports :
+      map export_entry_of tables.exports.items
+      ≡ filter (λ entry. not (is_star entry)) (exports_of tree)
+  pub stars :
+      map (λ star. star.now) tables.stars.items ≡ each_once (flat_map star_of (exports_of tree))
   pub sources : (settings : Settings) →
       Links config settings →
-      map source_asked tables.sources.items ≡ map (told_external settings.external) (declared_requests tree)
+      map source_asked tables.sources.items
+      ≡ map (told_external settings.external) (declared_requests tree)
   pub calls : (settings : Settings) →
       Links config settings →
       map call_entry_of tables.calls.items ≡ linked_calls settings (is_free tree) tree

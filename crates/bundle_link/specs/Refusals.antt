@@ -19,7 +19,9 @@ IsTreeRefusal file tree error = IfSome (fault_of error) (IsFirstTreeFault file t
 
 -- the settings link what a configuration says
 abbrev pub Links : Config → Settings → Type 0
-Links config settings = (settings.require ≡ config.require) × (settings.external ≡ map string_bytes config.external_modules.items)
+Links config settings =
+    (settings.require ≡ config.require)
+    × (settings.external ≡ map string_bytes config.external_modules.items)
 
 -- a set holds just the texts that are external by a configuration
 abbrev pub HasExternals : {S : Type 0} → IndexSet (Bor Text) S → Config → Type 0

@@ -19,7 +19,8 @@ abbrev pub target_read : List ℕ → Place → Option l.Target
 target_read ids (p.Declared m x) = option_map (λ id. l.Declared id x.now) (slice_get ids m)
 target_read ids (p.Namespace m) = option_map (λ id. l.Namespace id) (slice_get ids m)
 target_read ids (p.External specifier taken) = Some (l.External specifier.now (taken_of taken))
-target_read ids (p.CommonJs taker m taken) = common_js (slice_get ids taker) (slice_get ids m) (taken_of taken)
+target_read ids (p.CommonJs taker m taken) =
+    common_js (slice_get ids taker) (slice_get ids m) (taken_of taken)
 
 -- one target, where it is there
 abbrev pub single_target : Option l.Target → r.Resolution

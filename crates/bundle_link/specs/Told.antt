@@ -8,7 +8,8 @@ use Rattle.bundle_link_targets.specs.Judged.{fault_says}
 use Rattle.bundle_link_targets.specs.declared.target.LinkFault.{LinkFault}
 use Rattle.bundle_link.specs.Alike.{IsModuleAt}
 
--- a fault of a listed module, told by its place among these numbers, is the first in the order of judging; doubled declarations are not looked for
+-- a fault of a listed module, told by its place among these numbers, is the first in the order of
+-- judging; doubled declarations are not looked for
 pub record IsFirstTold (p : Program) (ids list : List ℕ) (fault : LinkFault) : Type 0 where
   pub m : ℕ
   pub at : IsModuleAt ids m fault.which
@@ -26,5 +27,10 @@ pub record IsFirstTold (p : Program) (ids list : List ℕ) (fault : LinkFault) :
 
 -- the fault that is told is the first, and none is told exactly where no listed module has one
 abbrev pub IsFaultTold : Program → List ℕ → List ℕ → Option LinkFault → Type 0
-IsFaultTold p ids list None = (n stage place : ℕ) (file : Name) (f : g.Fault) → stage ≢ 2 → Contains list n → ProgramFault p file n stage place f → ⊥
+IsFaultTold p ids list None =
+    (n stage place : ℕ) (file : Name) (f : g.Fault) →
+    stage ≢ 2 →
+    Contains list n →
+    ProgramFault p file n stage place f →
+    ⊥
 IsFaultTold p ids list (Some fault) = IsFirstTold p ids list fault

@@ -7,12 +7,18 @@ use Rattle.bundle_link_index.specs.declared.answer.Candidates.TheVariants.{Missi
 use Rattle.bundle_link_index.specs.Graph.{NameSpot, same_spot, Graph, own_of, stars_of}
 use Rattle.bundle_link_index.specs.Answers.{Has}
 
--- `Given g at v`: a path of entries that lead on and of stars goes from a name to one whose own entry gives the value
+-- `Given g at v`: a path of entries that lead on and of stars goes from a name to one whose own
+-- entry gives the value
 pub data Given (g : Graph) : NameSpot → ℕ → Type 0 where
   itself : {at : NameSpot} {v : ℕ} → own_of g at ≡ Some (Gives v) → Given g at v
   led : {at next : NameSpot} {v : ℕ} → own_of g at ≡ Some (Leads next) → Given g next v →
       Given g at v
-  starred : {at : NameSpot} {d v : ℕ} → own_of g at ≡ None → at.1 ≢ g.default → Contains (stars_of g at.0) d → Given g (d, at.1) v → Given g at v
+  starred : {at : NameSpot} {d v : ℕ} →
+      own_of g at ≡ None →
+      at.1 ≢ g.default →
+      Contains (stars_of g at.0) d →
+      Given g (d, at.1) v →
+      Given g at v
 
 -- the values that are kept are given, and two differ
 abbrev pub AreCandidatesKept : Graph → NameSpot → Candidates → Type 0
@@ -20,14 +26,18 @@ AreCandidatesKept g at Missing = Unit {0}
 AreCandidatesKept g at (One v) = Given g at v
 AreCandidatesKept g at (Two v w) = Given g at v × Given g at w × (v ≢ w)
 
--- the answer for a name: nothing, where no value is given; one, where it is given and no other; two that are given and differ
+-- the answer for a name: nothing, where no value is given; one, where it is given and no other; two
+-- that are given and differ
 pub record IsCandidates (g : Graph) (at : NameSpot) (answer : Candidates) : Type 0 where
   pub kept : AreCandidatesKept g at answer
   pub all : (v : ℕ) → Given g at v → Has answer v
 
 -- the answers that are noted are right
 abbrev pub AreAnswersRight : Graph → List (NameSpot × Candidates) → Type 0
-AreAnswersRight g answers = (at : NameSpot) (answer : Candidates) → lookup (same_spot at) answers ≡ Some answer → IsCandidates g at answer
+AreAnswersRight g answers =
+    (at : NameSpot) (answer : Candidates) →
+    lookup (same_spot at) answers ≡ Some answer →
+    IsCandidates g at answer
 
 -- it is in the list
 abbrev pub IsIn : {A : Type 0} → List A → A → Type 0
@@ -36,7 +46,10 @@ IsIn list at = (i : ℕ) × (slice_get list i ≡ Some at)
 -- what is noted after an answer was noted for some of these names
 abbrev pub NotesAnswer : List (NameSpot × Candidates) → List NameSpot → Candidates →
     List (NameSpot × Candidates) → Type 0
-NotesAnswer old line answer new = (at : NameSpot) (its : Candidates) → lookup (same_spot at) new ≡ Some its → (lookup (same_spot at) old ≡ Some its) ⊎ (IsIn line at × (its ≡ answer))
+NotesAnswer old line answer new =
+    (at : NameSpot) (its : Candidates) →
+    lookup (same_spot at) new ≡ Some its →
+    (lookup (same_spot at) old ≡ Some its) ⊎ (IsIn line at × (its ≡ answer))
 
 -- The search.
 
@@ -56,14 +69,20 @@ pub record GoesOn (g : Graph) (met : List NameSpot) (answer : Candidates)
     (at : NameSpot) : Type 0 where
   pub gives : (v : ℕ) → own_of g at ≡ Some (Gives v) → Has answer v
   pub leads : (next : NameSpot) → own_of g at ≡ Some (Leads next) → IsIn met next
-  pub stars : own_of g at ≡ None → at.1 ≢ g.default → (d : ℕ) → Contains (stars_of g at.0) d → IsIn met (d, at.1)
+  pub stars : own_of g at ≡ None →
+      at.1 ≢ g.default →
+      (d : ℕ) →
+      Contains (stars_of g at.0) d →
+      IsIn met (d, at.1)
 
 -- or the answer has all that it gives
 abbrev pub IsPast : Graph → List NameSpot → Candidates → NameSpot → Type 0
 IsPast g met answer at = ((v : ℕ) → Given g at v → Has answer v) ⊎ GoesOn g met answer at
 
 -- one name is done
-pub record SearchSteps (g : Graph) (at : NameSpot) (old : List NameSpot) (before : Candidates) (new : List NameSpot) (after : Candidates) : Type 0 where
+pub record SearchSteps
+    (g : Graph) (at : NameSpot) (old : List NameSpot) (before : Candidates) (new : List NameSpot)
+    (after : Candidates) : Type 0 where
   pub stays : (i : ℕ) (other : NameSpot) → slice_get old i ≡ Some other →
       slice_get new i ≡ Some other
   pub news : (other : NameSpot) → IsIn new other → IsIn old other ⊎ GivesAtMost g at other
@@ -73,7 +92,9 @@ pub record SearchSteps (g : Graph) (at : NameSpot) (old : List NameSpot) (before
   pub past : IsPast g new after at
 
 -- so many of the names that were met are done
-pub record Searching (g : Graph) (start : NameSpot) (met : List NameSpot) (done : ℕ) (answer : Candidates) : Type 0 where
+pub record Searching
+    (g : Graph) (start : NameSpot) (met : List NameSpot) (done : ℕ)
+    (answer : Candidates) : Type 0 where
   pub begun : IsIn met start
   pub within : (at : NameSpot) → IsIn met at → GivesAtMost g start at
   pub kept : AreCandidatesKept g start answer

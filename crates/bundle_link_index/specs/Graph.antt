@@ -1,4 +1,5 @@
--- Own entries and stars of modules. A name of a module is a pair of numbers: that of the module, and that of the name.
+-- Own entries and stars of modules. A name of a module is a pair of numbers: that of the module,
+-- and that of the name.
 use Rattle.std.specs.Prelude.{◌≡◌, ℕ, ◌==◌, ◌&&◌, Bool, List, [], Option, map, slice_index_or, Some, unwrap_or, if◌then◌else◌}
 use Rattle.std.specs.Map.{lookup}
 use Rattle.bundle_link_index.specs.declared.links.OwnLink.{OwnLink}
@@ -27,8 +28,16 @@ stars_of g m = slice_index_or g.lists m []
 
 -- as a program keeps it
 abbrev pub graph_of : Links → Graph
-graph_of links = record { entries = links.own.entries; lists = map (λ v. v.items) links.stars.items; default = links.default }
+graph_of links =
+    record {
+      entries = links.own.entries;
+      lists = map (λ v. v.items) links.stars.items;
+      default = links.default;
+    }
 
 -- the entry stands for the name, unless one did before; all others stay
 abbrev pub PutsOwn : Graph → NameSpot → OwnLink → Graph → Type 0
-PutsOwn old at own new = (other : NameSpot) → own_of new other ≡ (if same_spot at other then Some (unwrap_or (own_of old at) own) else own_of old other)
+PutsOwn old at own new =
+    (other : NameSpot) →
+    own_of new other
+    ≡ (if same_spot at other then Some (unwrap_or (own_of old at) own) else own_of old other)

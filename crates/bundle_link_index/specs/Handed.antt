@@ -41,8 +41,13 @@ modules_numbered f m (its ∷ rest) = f m its ∷ modules_numbered f (suc m) res
 
 -- whether a module is CommonJS, where these are required
 abbrev pub is_kind : Bool → ℕ → List ℕ → ℕ → LinkModule → Bool
-is_kind require entry required m its = require && (not (m == entry) && (its.tables.now.is_script && (its.tables.now.names_common_js || list_any (nat_eq m) required)))
+is_kind require entry required m its =
+    require
+    && (not (m == entry)
+    && (its.tables.now.is_script
+    && (its.tables.now.names_common_js || list_any (nat_eq m) required)))
 
 -- the same of all modules
 abbrev pub kinds_of : List LinkModule → List ℕ → ℕ → Bool → List Bool
-kinds_of modules list entry require = modules_numbered (is_kind require entry (required_by modules list)) 0 modules
+kinds_of modules list entry require =
+    modules_numbered (is_kind require entry (required_by modules list)) 0 modules

@@ -40,4 +40,7 @@ lead_found flags (Some d) = lead_to flags d
 
 -- where a specifier of a module leads
 abbrev pub lead_of : Kinds → ℕ → Text → Lead
-lead_of kinds m s = if contains_by (λ k. bytes_eq s k.now) kinds.externals then Outside else lead_found kinds.common_js.items (required_of kinds.modules.now m s)
+lead_of kinds m s =
+    if contains_by (λ k. bytes_eq s k.now) kinds.externals
+    then Outside
+    else lead_found kinds.common_js.items (required_of kinds.modules.now m s)

@@ -13,7 +13,8 @@ use Rattle.bundle_link_index.specs.Graph.{Graph, own_of, stars_of}
 abbrev pub Value : Type 0
 Value = Target × Option Origin
 
--- `OwnGives p m x t origin`: an own entry of m gives the target for the name x, without a look at other modules
+-- `OwnGives p m x t origin`: an own entry of m gives the target for the name x, without a look at
+-- other modules
 pub data OwnGives (p : Program) (m : ℕ) (x : Text) : Target → Option Origin → Type 0 where
   own_declaration : {y : Text} →
       Contains (exports p m) (Local x y) →
@@ -46,11 +47,13 @@ abbrev pub StarReaches : Program → ℕ → ℕ → Type 0
 StarReaches p m d = Reaches (Stars p) m d
 
 -- the graph stands for the program, where these are its names and values, each at its number
-pub record IsLinkGraph (p : Program) (names : List Text) (values : List Value) (g : Graph) : Type 0 where
+pub record IsLinkGraph
+    (p : Program) (names : List Text) (values : List Value) (g : Graph) : Type 0 where
   pub gives : (m n v : ℕ) (x : Text) →
       slice_get names n ≡ Some x →
       own_of g (m, n) ≡ Some (Gives v) →
-      (t : Target) × (origin : Option Origin) × (slice_get values v ≡ Some (t, origin)) × OwnGives p m x t origin
+      (t : Target) × (origin : Option Origin) × (slice_get values v ≡ Some (t, origin))
+      × OwnGives p m x t origin
   pub gave : (m n : ℕ) (x : Text) (t : Target) (origin : Option Origin) →
       slice_get names n ≡ Some x →
       OwnGives p m x t origin →
@@ -69,7 +72,10 @@ pub record IsLinkGraph (p : Program) (names : List Text) (values : List Value) (
   pub stars : (m d : ℕ) → Contains (stars_of g m) d ↔ Stars p m d
   pub default : slice_get names g.default ≡ Some default_name
   -- each name and each value has one number, and each name of an entry has one
-  pub one_name : (a b : ℕ) (x : Text) → slice_get names a ≡ Some x → slice_get names b ≡ Some x → a ≡ b
+  pub one_name : (a b : ℕ) (x : Text) →
+      slice_get names a ≡ Some x →
+      slice_get names b ≡ Some x →
+      a ≡ b
   pub one_value : (a b : ℕ) (value : Value) →
       slice_get values a ≡ Some value →
       slice_get values b ≡ Some value →

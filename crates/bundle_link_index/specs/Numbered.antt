@@ -27,7 +27,8 @@ values_of numbers = map value_of numbers.given.keys
 
 -- no two numbers stand for one
 abbrev pub HasNoDoubles : {V : Type 0} → List V → Type 0
-HasNoDoubles {V = V} list = (i j : ℕ) (x : V) → slice_get list i ≡ Some x → slice_get list j ≡ Some x → i ≡ j
+HasNoDoubles {V = V} list =
+    (i j : ℕ) (x : V) → slice_get list i ≡ Some x → slice_get list j ≡ Some x → i ≡ j
 
 -- there is more: what has a number keeps it
 pub record IsMore {V : Type 0} (old new : List V) : Type 0 where
@@ -57,11 +58,14 @@ pub record NotedEntry : Type 0 where
 
 -- what an export of a module says, where these are its imports
 abbrev pub note : (Text → Lead) → ℕ → List ImportEntry → Export → NotedEntry
-note lead m imports export = record { which = m; name = export.name.now; said = said_of lead m imports (export_entry_of export) }
+note lead m imports export =
+    record
+    { which = m; name = export.name.now; said = said_of lead m imports (export_entry_of export) }
 
 -- what the exports of a module say
 abbrev pub notes_of : (Text → Lead) → ℕ → Tables → List NotedEntry
-notes_of lead m tables = map (note lead m (map import_entry_of tables.imports.items)) tables.exports.items
+notes_of lead m tables =
+    map (note lead m (map import_entry_of tables.imports.items)) tables.exports.items
 
 -- the same of modules, which begin with this number
 abbrev pub all_notes : (ℕ → Text → Lead) → ℕ → List LinkModule → List NotedEntry
@@ -82,13 +86,17 @@ starred lead stars = filter_map (λ star. module_in (lead star.now)) stars
 -- the same of modules, which begin with this number
 abbrev pub all_starred : (ℕ → Text → Lead) → ℕ → List LinkModule → List (List ℕ)
 all_starred lead m [] = []
-all_starred lead m (its ∷ rest) = starred (lead m) its.tables.now.stars.items ∷ all_starred lead (suc m) rest
+all_starred lead m (its ∷ rest) =
+    starred (lead m) its.tables.now.stars.items ∷ all_starred lead (suc m) rest
 
 -- own entries stand for these and no others, and the stars are these
-pub record HoldsEntries (noted : List NotedEntry) (lists : List (List ℕ)) (names : List Text) (values : List Value) (g : Graph) : Type 0 where
+pub record HoldsEntries
+    (noted : List NotedEntry) (lists : List (List ℕ)) (names : List Text) (values : List Value)
+    (g : Graph) : Type 0 where
   pub own : (m n : ℕ) (own : OwnLink) →
       own_of g (m, n) ≡ Some own →
-      (entry : NotedEntry) × Contains noted entry × (entry.which ≡ m) × (slice_get names n ≡ Some entry.name) × IsSaidNumber names values entry.said own
+      (entry : NotedEntry) × Contains noted entry × (entry.which ≡ m)
+      × (slice_get names n ≡ Some entry.name) × IsSaidNumber names values entry.said own
   pub all : (entry : NotedEntry) →
       Contains noted entry →
       (n : ℕ) × (slice_get names n ≡ Some entry.name) × (own_of g (entry.which, n) ≢ None)
@@ -99,7 +107,8 @@ pub record HoldsEntries (noted : List NotedEntry) (lists : List (List ℕ)) (nam
 
 -- the same, of numbers and links
 abbrev pub HoldsAt : List NotedEntry → List (List ℕ) → LinkNumbers → Links → Type 0
-HoldsAt noted stars numbers links = HoldsEntries noted stars (index_names numbers) (values_of numbers) (graph_of links)
+HoldsAt noted stars numbers links =
+    HoldsEntries noted stars (index_names numbers) (values_of numbers) (graph_of links)
 
 -- nothing has a number
 pub record IsEmpty (numbers : LinkNumbers) : Type 0 where
@@ -108,4 +117,6 @@ pub record IsEmpty (numbers : LinkNumbers) : Type 0 where
 
 -- the numbers stand for what all modules say and star
 abbrev pub IsGraphNumbered : Kinds → List Text → List Value → Graph → Type 0
-IsGraphNumbered kinds names values g = HoldsEntries (all_notes (lead_of kinds) 0 kinds.modules.now) (all_starred (lead_of kinds) 0 kinds.modules.now) names values g
+IsGraphNumbered kinds names values g =
+    HoldsEntries (all_notes (lead_of kinds) 0 kinds.modules.now)
+    (all_starred (lead_of kinds) 0 kinds.modules.now) names values g

@@ -46,9 +46,12 @@ pub record IsOutsideGraph (flags : List Bool) (lists : List (List ℕ)) (g : Gra
 
 -- the same of links, of these modules
 abbrev pub IsOutsideOf : (ℕ → Text → Lead) → List LinkModule → Links → Type 0
-IsOutsideOf lead modules links = IsOutsideGraph (modules_numbered (starring lead) 0 modules) (all_starred lead 0 modules) (graph_of links)
+IsOutsideOf lead modules links =
+    IsOutsideGraph (modules_numbered (starring lead) 0 modules) (all_starred lead 0 modules)
+    (graph_of links)
 
--- what is noted is of the program: what names are given, and which modules star an external over any chain
+-- what is noted is of the program: what names are given, and which modules star an external over
+-- any chain
 pub record IsIndexOf (p : Program) (index : Index) : Type 0 where
   pub names : IsLinkGraph p (index_names index.numbers) (values_of index.numbers) index.search
   pub outside : (m : ℕ) → ((v : ℕ) × Given index.outside (m, 0) v) ↔ StarsExternal p m

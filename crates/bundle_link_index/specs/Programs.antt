@@ -28,10 +28,13 @@ pub data AsksFor (p : Program) (m : ℕ) : Text → Type 0 where
 
 -- the table of a module is that of the program
 pub record IsTableOf (p : Program) (m : ℕ) (tables : Tables) : Type 0 where
-  pub named : map export_entry_of tables.exports.items ≡ filter (λ entry. not (is_star entry)) (exports p m)
+  pub named :
+      map export_entry_of tables.exports.items ≡ filter (λ entry. not (is_star entry)) (exports p m)
   pub stars : map (λ star. star.now) tables.stars.items ≡ each_once (flat_map star_of (exports p m))
   pub imports : map import_entry_of tables.imports.items ≡ imports p m
-  pub sources : map source_asked tables.sources.items ≡ map (told_external p.settings.external) (declared_requests (tree_of p m))
+  pub sources :
+      map source_asked tables.sources.items
+      ≡ map (told_external p.settings.external) (declared_requests (tree_of p m))
   pub calls : map call_entry_of tables.calls.items ≡ calls_of p m
   pub script : tables.is_script ≡ is_script (tree_of p m)
   pub common_js : tables.names_common_js ≡ uses_common_js (tree_of p m)
@@ -40,9 +43,14 @@ pub record IsTableOf (p : Program) (m : ℕ) (tables : Tables) : Type 0 where
   pub names : map asked_name_of tables.asked.items ≡ asked_names (tree_of p m)
   pub uses : map (use_entry_of tables.reads.items) tables.uses.items ≡ uses_of (tree_of p m)
 
--- modules that are handed in to be linked are those of the program: their tables, where their requests lead, which are reached from the entry
-pub record IsLinkProgram (p : Program) (modules : List LinkModule) (list : List ℕ) (entry : ℕ) (require : Bool) : Type 0 where
-  pub tables : (m : ℕ) (its : LinkModule) → slice_get modules m ≡ Some its → IsTableOf p m its.tables.now
+-- modules that are handed in to be linked are those of the program: their tables, where their
+-- requests lead, which are reached from the entry
+pub record IsLinkProgram
+    (p : Program) (modules : List LinkModule) (list : List ℕ) (entry : ℕ)
+    (require : Bool) : Type 0 where
+  pub tables : (m : ℕ) (its : LinkModule) →
+      slice_get modules m ≡ Some its →
+      IsTableOf p m its.tables.now
   pub others : (m : ℕ) → slice_get modules m ≡ None → tree_of p m ≡ []
   pub leads : (m : ℕ) (s : Text) → p.leads m s ≡ required_of modules m s
   pub within : (m d : ℕ) (s : Text) → p.leads m s ≡ Some d → d < length modules

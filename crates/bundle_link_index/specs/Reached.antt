@@ -1,4 +1,5 @@
--- The modules to which stars lead, those that have an entry of a name, and names for which the same is given.
+-- The modules to which stars lead, those that have an entry of a name, and names for which the same
+-- is given.
 use Rattle.std.specs.Prelude.{◌≡◌, ◌≢◌, ◌⊎◌, ℕ, ◌<◌, nat_eq, List, [], ◌∷◌, ◌++◌, Some, None, Contains, map, slice_get, unwrap_or, if◌then◌else◌}
 use Rattle.std.specs.Map.{lookup}
 use Rattle.std.specs.declared.vec.Vec.{Vec}
@@ -55,7 +56,12 @@ pub record Reaching (g : Graph) (start : ℕ) (old list : List ℕ) (done : ℕ)
   pub first : old ≡ [] → slice_get list 0 ≡ Some start
   pub begun : IsIn list start
   pub no_more : (k : ℕ) → IsIn list k → IsIn old k ⊎ Reaches (Starring g) start k
-  pub past : (i k : ℕ) → i < done → slice_get list i ≡ Some k → (d : ℕ) → Starring g k d → IsIn list d
+  pub past : (i k : ℕ) →
+      i < done →
+      slice_get list i ≡ Some k →
+      (d : ℕ) →
+      Starring g k d →
+      IsIn list d
 
 -- Names with modules.
 abbrev pub HeldNames : Type 0
@@ -76,7 +82,8 @@ holders_of held n = unwrap_or (lookup (nat_eq n) held) []
 -- one more module of a name
 abbrev pub put_name : HeldNames → ℕ → ℕ → HeldNames
 put_name [] n m = (n, m ∷ []) ∷ []
-put_name ((k, its) ∷ rest) n m = if nat_eq n k then (k, its ++ m ∷ []) ∷ rest else (k, its) ∷ put_name rest n m
+put_name ((k, its) ∷ rest) n m =
+    if nat_eq n k then (k, its ++ m ∷ []) ∷ rest else (k, its) ∷ put_name rest n m
 
 -- these names of modules are all there
 abbrev pub AreHeld : List NameSpot → HeldNames → Type 0

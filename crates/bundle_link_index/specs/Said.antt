@@ -1,4 +1,5 @@
--- What the entries of a module say, where its specifiers lead somewhere, and numbers that stand for it.
+-- What the entries of a module say, where its specifiers lead somewhere, and numbers that stand for
+-- it.
 use Rattle.std.specs.Prelude.{◌≡◌, ◌⊎◌, ◌↔◌, ℕ, true, false, IsTrue, List, Option, Some, None, Contains, slice_get}
 use Rattle.bundle_rules.specs.Nodes.{Text}
 use Rattle.bundle_rules.specs.Statements.{default_name}
@@ -10,7 +11,8 @@ use Rattle.bundle_link_index.specs.declared.links.OwnLink.TheVariants.{Gives, Le
 use Rattle.bundle_link_index.specs.Graph.{Graph, own_of, stars_of}
 use Rattle.bundle_link_index.specs.Linked.{Value}
 
--- where a specifier of a module leads: to an external, to an ES module, to a CommonJS module, or to nothing
+-- where a specifier of a module leads: to an external, to an ES module, to a CommonJS module, or to
+-- nothing
 pub data Lead : Type 0 where
   Outside : Lead
   ToModule : (d : ℕ) → Lead
@@ -24,7 +26,8 @@ LeadsIn p m s (ToModule d) = IsModule p m s d
 LeadsIn p m s (ToCommonJs c) = (resolves p m s ≡ Some c) × IsCommonJs p c
 LeadsIn p m s Nowhere = (is_external p s ≡ false) × (resolves p m s ≡ None)
 
--- what an entry says: it gives a target, it gives what another module gives for a name, or it gives nothing
+-- what an entry says: it gives a target, it gives what another module gives for a name, or it gives
+-- nothing
 pub data Said : Type 0 where
   It : Target → Option Origin → Said
   On : (d : ℕ) → Text → Said
@@ -47,7 +50,10 @@ target_only Naught = Naught
 -- what a name of the module's own gives, where this import binds it, or none
 abbrev pub said_local : (Text → Lead) → ℕ → Text → Option ImportEntry → Said
 said_local lead m y None = It (Declared m y) None
-said_local lead m y (Some entry) = target_only (said_by m entry.specifier (Some (record { which = m; local = y })) entry.taken (lead entry.specifier))
+said_local lead m y (Some entry) =
+    target_only
+    (said_by m entry.specifier (Some (record { which = m; local = y })) entry.taken
+    (lead entry.specifier))
 
 -- what an entry of m says, where these are its imports
 abbrev pub said_of : (Text → Lead) → ℕ → List ImportEntry → ExportEntry → Said
@@ -63,7 +69,9 @@ IsSaidNumber names values Naught Nothing = Unit {0}
 IsSaidNumber names values _ _ = ⊥
 
 -- what stands by numbers for the entry of a name
-pub record EntryAt (p : Program) (lead : ℕ → Text → Lead) (names : List Text) (values : List Value) (g : Graph) (m n : ℕ) (x : Text) : Type 0 where
+pub record EntryAt
+    (p : Program) (lead : ℕ → Text → Lead) (names : List Text) (values : List Value) (g : Graph)
+    (m n : ℕ) (x : Text) : Type 0 where
   pub entry : ExportEntry
   pub stands : Contains (exports p m) entry
   pub named : is_named x entry ≡ true
@@ -72,13 +80,21 @@ pub record EntryAt (p : Program) (lead : ℕ → Text → Lead) (names : List Te
   pub number : IsSaidNumber names values (said_of (lead m) m (imports p m) entry) own
 
 -- what is made of the tables of a program, where its specifiers lead so
-pub record AreNumbers (p : Program) (lead : ℕ → Text → Lead) (names : List Text) (values : List Value) (g : Graph) : Type 0 where
+pub record AreNumbers
+    (p : Program) (lead : ℕ → Text → Lead) (names : List Text) (values : List Value)
+    (g : Graph) : Type 0 where
   pub entries : (m n : ℕ) (x : Text) → slice_get names n ≡ Some x
-      → EntryAt p lead names values g m n x ⊎ ((own_of g (m, n) ≡ None) × ((entry : ExportEntry) → Contains (exports p m) entry → is_named x entry ≡ true → ⊥))
+      → EntryAt p lead names values g m n x
+      ⊎ ((own_of g (m, n) ≡ None)
+      × ((entry : ExportEntry) → Contains (exports p m) entry → is_named x entry ≡ true → ⊥))
   pub stars : (m d : ℕ) →
-      Contains (stars_of g m) d ↔ ((s : Text) × Contains (exports p m) (Star s) × (lead m s ≡ ToModule d))
+      Contains (stars_of g m) d
+      ↔ ((s : Text) × Contains (exports p m) (Star s) × (lead m s ≡ ToModule d))
   pub default : slice_get names g.default ≡ Some default_name
-  pub one_name : (a b : ℕ) (x : Text) → slice_get names a ≡ Some x → slice_get names b ≡ Some x → a ≡ b
+  pub one_name : (a b : ℕ) (x : Text) →
+      slice_get names a ≡ Some x →
+      slice_get names b ≡ Some x →
+      a ≡ b
   pub one_value : (a b : ℕ) (value : Value) →
       slice_get values a ≡ Some value →
       slice_get values b ≡ Some value →
@@ -94,4 +110,10 @@ AreLeads p lead = (m : ℕ) (s : Text) → LeadsIn p m s (lead m s)
 
 -- no module has two entries of a name
 abbrev pub HasEachOnce : Program → Type 0
-HasEachOnce p = (m : ℕ) (x : Text) (a b : ExportEntry) → Contains (exports p m) a → Contains (exports p m) b → is_named x a ≡ true → is_named x b ≡ true → a ≡ b
+HasEachOnce p =
+    (m : ℕ) (x : Text) (a b : ExportEntry) →
+    Contains (exports p m) a →
+    Contains (exports p m) b →
+    is_named x a ≡ true →
+    is_named x b ≡ true →
+    a ≡ b

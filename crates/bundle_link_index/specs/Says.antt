@@ -74,7 +74,8 @@ answer_of_values values f.Missing = Nought
 answer_of_values values (f.One v) = single (slice_get values v)
 answer_of_values values (f.Two a b) = double (slice_get values a) (slice_get values b)
 
--- the answer is right in the program: the name is linked to the one target; two count as two; or none is given
+-- the answer is right in the program: the name is linked to the one target; two count as two; or
+-- none is given
 abbrev pub TellsAnswer : Program → ℕ → Text → GivenFor → Type 0
 TellsAnswer p m x Nought = IsMissing p m x
 TellsAnswer p m x (Single value) = Linked p m x value.0

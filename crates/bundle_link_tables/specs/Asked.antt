@@ -9,7 +9,9 @@ use Rattle.bundle_link_tables.specs.Exported.{exports_named}
 
 -- the names that a top item asks for
 abbrev pub asked_in : (Text → Option ImportEntry) → List Item → List AskedName
-asked_in look item = flat_map asked_by_import (imports_of_item item) ++ flat_map asked_by_export (exports_named look item)
+asked_in look item =
+    flat_map asked_by_import (imports_of_item item)
+    ++ flat_map asked_by_export (exports_named look item)
 
 -- whether an export is given on from another module under a name
 abbrev pub is_given_on : ExportEntry → Bool

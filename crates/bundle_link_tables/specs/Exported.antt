@@ -48,14 +48,17 @@ named_declared declaration = locals_named (e.names_declared declaration)
 
 -- what a specifier of an export list without `from` exports
 abbrev pub export_by : (Text → Option e.ImportEntry) → List Item → e.ExportEntry
-export_by look specifier = e.given_on (e.renamed_text specifier) (e.text_in 0 specifier) (look (e.text_in 0 specifier))
+export_by look specifier =
+    e.given_on (e.renamed_text specifier) (e.text_in 0 specifier) (look (e.text_in 0 specifier))
 
 -- the same, of which `* as n` says nothing
 abbrev pub named_here : (Text → Option e.ImportEntry) → List Item → List e.ExportEntry
-named_here look specifier = if begins_with is_named_specifier specifier then export_by look specifier ∷ [] else []
+named_here look specifier =
+    if begins_with is_named_specifier specifier then export_by look specifier ∷ [] else []
 
 -- what an export list exports, with `from` or without
-abbrev pub named_in_list : (Text → Option e.ImportEntry) → Option Text → List Item → List e.ExportEntry
+abbrev pub named_in_list :
+    (Text → Option e.ImportEntry) → Option Text → List Item → List e.ExportEntry
 named_in_list look (Some source) list = map (e.entry_from source) (in_field 0 list)
 named_in_list look None list = flat_map (named_here look) (in_field 0 list)
 
@@ -63,7 +66,8 @@ named_in_list look None list = flat_map (named_here look) (in_field 0 list)
 abbrev pub named_by_head : (Text → Option e.ImportEntry) → Head → List Item → List e.ExportEntry
 named_by_head look h.ExportDecl item = named_declared (child 0 item)
 named_by_head look (h.NamedExport meta) item = named_in_list look (string_of (child 1 item)) item
-named_by_head look h.ExportDefaultDecl item = e.Local default_name (e.default_declared (child 0 item)) ∷ []
+named_by_head look h.ExportDefaultDecl item =
+    e.Local default_name (e.default_declared (child 0 item)) ∷ []
 named_by_head look h.ExportDefaultExpr item = e.Local default_name default_name ∷ []
 named_by_head look _ item = []
 

@@ -1,4 +1,5 @@
--- What the table of denotations tells of names: which stand where nothing binds them, and which the top binds.
+-- What the table of denotations tells of names: which stand where nothing binds them, and which the
+-- top binds.
 use Rattle.std.specs.Prelude.{ℕ, Bool, true, false, ◌==◌, ◌&&◌, ◌||◌, not, is_some, List, [], ◌∷◌, ◌++◌, Option, Some, None, bytes_eq, slice_get, slice_index_or, if◌then◌else◌}
 use Rattle.std.specs.List.{flat_map}
 use Rattle.bundle_syntax.specs.Item as h
@@ -44,12 +45,14 @@ is_top_scope (Some scope) = is_top_kind scope.kind
 -- the symbol of a binding, if that is one of the top
 abbrev pub symbol_at_top : List Scope → Option Binding → List Text
 symbol_at_top scopes None = []
-symbol_at_top scopes (Some binding) = if is_top_scope (slice_get scopes binding.scope) then binding.sym.now ∷ [] else []
+symbol_at_top scopes (Some binding) =
+    if is_top_scope (slice_get scopes binding.scope) then binding.sym.now ∷ [] else []
 
 -- the same of the binding with a number
 abbrev pub symbol_of_number : Denotations → Option ℕ → List Text
 symbol_of_number table None = []
-symbol_of_number table (Some number) = symbol_at_top table.scopes.items (slice_get table.bindings.items number)
+symbol_of_number table (Some number) =
+    symbol_at_top table.scopes.items (slice_get table.bindings.items number)
 
 -- the symbol that an entry declares at the top
 abbrev pub declared_at_top : Denotations → Denoted → List Text
@@ -76,4 +79,5 @@ default_declared_in tree = if has_nameless_default tree then default_name ∷ []
 
 -- the names that the top binds, as the table tells them
 abbrev pub told_top_names : Denotations → List Item → List Text
-told_top_names table tree = flat_map (declared_at_top table) table.occurrences.items ++ default_declared_in tree
+told_top_names table tree =
+    flat_map (declared_at_top table) table.occurrences.items ++ default_declared_in tree

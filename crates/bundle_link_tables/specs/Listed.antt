@@ -17,7 +17,8 @@ listed_alone (Some listed) = export_listed_as listed ∷ []
 
 -- the name that a specifier lists; `* as n` lists none
 abbrev pub kept_listed : List Item → List ListedName
-kept_listed specifier = if begins_with is_named_specifier specifier then listed_name specifier else []
+kept_listed specifier =
+    if begins_with is_named_specifier specifier then listed_name specifier else []
 
 -- whether an item is an export list without `from`
 abbrev pub lists_names : List Item → Bool

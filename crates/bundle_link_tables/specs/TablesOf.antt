@@ -27,11 +27,14 @@ taken_of t.Whole = e.Whole
 
 -- the import entry that an `ImportRef` stands for
 abbrev pub import_entry_of : ImportRef → e.ImportEntry
-import_entry_of import = record { local = import.local.now; specifier = import.specifier.now; taken = taken_of import.taken }
+import_entry_of import =
+    record
+    { local = import.local.now; specifier = import.specifier.now; taken = taken_of import.taken }
 
 -- what an import specifier with this head imports of the source
 abbrev pub entry_as : Head → Text → List Item → e.ImportEntry
-entry_as head source specifier = record { local = e.text_in 0 specifier; specifier = source; taken = e.taken_by head specifier }
+entry_as head source specifier =
+    record { local = e.text_in 0 specifier; specifier = source; taken = e.taken_by head specifier }
 
 -- the entry of this name that an `Origin` stands for
 abbrev pub entry_by_origin : Text → Origin → e.ExportEntry
@@ -48,7 +51,8 @@ asked_name_of asked = record { specifier = asked.specifier.now; name = asked.nam
 
 -- whether a module has an import or export declaration
 abbrev pub has_declaration : List Item → Bool
-has_declaration tree = list_any (λ top. begins_with e.is_module_declaration top.items) (top_items tree)
+has_declaration tree =
+    list_any (λ top. begins_with e.is_module_declaration top.items) (top_items tree)
 
 -- the literal call of `require` that a `RequireCall` stands for
 abbrev pub call_entry_of : RequireCall → e.RequireCall
@@ -56,7 +60,9 @@ call_entry_of call = record { place = call.place; specifier = call.specifier.now
 
 -- whether a `require`, `module` or `exports` stands in a module that nothing binds
 abbrev pub uses_common_js : List Item → Bool
-uses_common_js tree = has_free tree (codes "require") || (has_free tree (codes "module") || has_free tree (codes "exports"))
+uses_common_js tree =
+    has_free tree (codes "require")
+    || (has_free tree (codes "module") || has_free tree (codes "exports"))
 
 -- what is wrong with a file that has such a fault
 abbrev pub fault_in : Name → FileFault → Fault

@@ -18,7 +18,9 @@ abbrev pub words_around : List Item → ℕ → List Around → List Text
 words_around tree place [] = []
 words_around tree place (node ∷ outer) =
     if node.begins + 1 == place
-    then (elim (read_word tree node.begins) [ None ↦ [] | Some x ↦ x ∷ words_around tree node.begins outer ])
+    then
+    (elim (read_word tree node.begins)
+    [ None ↦ [] | Some x ↦ x ∷ words_around tree node.begins outer ])
     else []
 
 -- a use of an imported name: where it stands, the name, and the words of the reads around it
@@ -35,11 +37,14 @@ is_bound_at_top _ = false
 -- whether an occurrence is a use of an imported name
 abbrev pub is_use : List Item → Occurrence → Bool
 is_use tree o =
-    is_bound_at_top (e.denoted_at BySymbol Es tree o.place) && (is_some (import_of (imports_of tree) o.sym) && is_in_statement (path_at tree o.place))
+    is_bound_at_top (e.denoted_at BySymbol Es tree o.place)
+    && (is_some (import_of (imports_of tree) o.sym) && is_in_statement (path_at tree o.place))
 
 -- the use that an occurrence is
 abbrev pub use_of : List Item → Occurrence → UseEntry
-use_of tree o = record { place = o.place; local = o.sym; words = words_around tree o.place (path_at tree o.place) }
+use_of tree o =
+    record
+    { place = o.place; local = o.sym; words = words_around tree o.place (path_at tree o.place) }
 
 -- the uses, in the order of the source
 abbrev pub uses_of : List Item → List UseEntry
@@ -51,7 +56,12 @@ name_read read = read.name.now
 
 -- the use that a `Use` stands for, by the names of all reads
 abbrev pub use_by : List Text → Use → UseEntry
-use_by names one = record { place = one.place; local = one.local.now; words = take one.count (drop one.first_read names) }
+use_by names one =
+    record {
+      place = one.place;
+      local = one.local.now;
+      words = take one.count (drop one.first_read names);
+    }
 
 -- the use that a `Use` stands for
 abbrev pub use_entry_of : List MemberRead → Use → UseEntry

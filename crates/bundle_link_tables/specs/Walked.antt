@@ -24,7 +24,8 @@ use Rattle.indexmap.specs.IndexMap.{IndexMap, get_by}
 -- the words that are told of the places right before a place, from the nearest on
 abbrev pub words_before : (ℕ → Option Text) → ℕ → List Text
 words_before word zero = []
-words_before word (suc place) = elim (word place) [ None ↦ [] | Some x ↦ x ∷ words_before word place ]
+words_before word (suc place) =
+    elim (word place) [ None ↦ [] | Some x ↦ x ∷ words_before word place ]
 
 -- the word that is told of the place right before a place
 abbrev pub word_before : (ℕ → Option Text) → ℕ → Option Text
@@ -48,7 +49,8 @@ is_own_binding scopes (Some binding) = is_own_scope (slice_get scopes binding.sc
 -- the same of the binding with a number
 abbrev pub is_own_number : Denotations → Option ℕ → Bool
 is_own_number table None = false
-is_own_number table (Some number) = is_own_binding table.scopes.items (slice_get table.bindings.items number)
+is_own_number table (Some number) =
+    is_own_binding table.scopes.items (slice_get table.bindings.items number)
 
 -- whether a table has an import of a name
 abbrev pub has_import : {S : Type 0} → IndexMap (Bor Text) ImportRef S → Text → Bool
@@ -91,11 +93,13 @@ is_behind_member tree (suc place) = begins_member (slice_get tree place)
 
 -- the words that are told around a place are those of the reads there
 abbrev pub AreWordsRead : List Item → List ReadAt → ℕ → Type 0
-AreWordsRead tree told place = place < length tree → words_before (word_told told) place ≡ words_before (read_word tree) place
+AreWordsRead tree told place =
+    place < length tree → words_before (word_told told) place ≡ words_before (read_word tree) place
 
 -- the use of a name at a place
 abbrev pub named_use : List ReadAt → ℕ → Text → UseEntry
-named_use told place x = record { place = place; local = x; words = words_before (word_told told) place }
+named_use told place x =
+    record { place = place; local = x; words = words_before (word_told told) place }
 
 -- the use that a name is, if it is one
 abbrev pub uses_of_name : List Bool → List ReadAt → ImportedName → List UseEntry

@@ -148,7 +148,8 @@ fn add_exported<'a>(
     ensures { OnOk result
         (map asked_name_of asked.new.items
         ≡ map asked_name_of asked.old.items
-        ++ flat_map asked_by_export (exports_named (import_by locals.now) (part_items item.entry))) }
+        ++ flat_map asked_by_export
+        (exports_named (import_by locals.now) (part_items item.entry))) }
 {
     let mut exports = Vec::new(alloc);
     add_exports(alloc, &mut exports, item, locals)?;

@@ -51,7 +51,8 @@ fn is_stated(within: Within) -> bool
 fn step_past<'a>(within: Within, piece: Piece<'a>) -> Within
     requires { within.depth < 2 ^ 64 - 1 }
     ensures within { (place : ℕ) (path : List Around) →
-        IsWithinItem within path → IsWithinItem result (path_past place path (item_of piece.entry)) }
+        IsWithinItem within path →
+        IsWithinItem result (path_past place path (item_of piece.entry)) }
     ensures depth { result.depth ≤ within.depth + 1 }
 {
     match piece {

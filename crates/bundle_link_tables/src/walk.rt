@@ -174,7 +174,8 @@ fn name_of<'a>(
     entry: Denoted,
 ) -> Option<&'a str>
     ensures { text_list result
-        ≡ walked.imported_name denotations.now (has_import imports.now) (map item_of pieces.now) entry }
+        ≡ walked.imported_name denotations.now (has_import imports.now) (map item_of pieces.now)
+        entry }
 {
     if is_own_number(denotations, entry.binding) {
         imported_at(pieces, imports, entry.place)

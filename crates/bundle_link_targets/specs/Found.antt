@@ -29,7 +29,8 @@ target_in pair = target_of pair.1
 abbrev pub reads_by : List MemberRead → Use → List MemberRead
 reads_by reads its = take its.count (drop its.first_read reads)
 
--- what a read of a name of a target means: what a name of a namespace is linked to, or nothing by itself
+-- what a read of a name of a target means: what a name of a namespace is linked to, or nothing by
+-- itself
 abbrev pub IsReadTarget : Program → l.Target → Text → Option l.Target → Type 0
 IsReadTarget p t x None = (d : ℕ) (u : l.Target) → t ≡ Namespace d → Linked p d x u → ⊥
 IsReadTarget p t x (Some u) = (d : ℕ) × (t ≡ Namespace d) × Linked p d x u
@@ -48,10 +49,12 @@ abbrev pub IsImported : Program → ℕ → ImportEntry → Option l.Target → 
 IsImported p m entry None = (t : l.Target) → Imports p m entry t → ⊥
 IsImported p m entry (Some t) = Imports p m entry t
 
--- what is found of a name in m with reads of these words around it: what it means, or that it stands for nothing
+-- what is found of a name in m with reads of these words around it: what it means, or that it
+-- stands for nothing
 abbrev pub IsMeaning : Program → ℕ → Text → List Text → Option Meaning → Type 0
 IsMeaning p m x words None = (t : l.Target) → StandsFor p m x t → ⊥
-IsMeaning p m x words (Some meaning) = WordsMean p m x words meaning.steps (target_of meaning.target)
+IsMeaning p m x words (Some meaning) =
+    WordsMean p m x words meaning.steps (target_of meaning.target)
 
 -- the target that is meant, if one is
 abbrev pub MeansSome : Option Meaning → l.Target → Type 0
@@ -77,7 +80,11 @@ pub data WithinTargets (p : Program) (targets : List l.Target) : l.Target → Ty
 -- so many of the targets that were met are done
 pub record Meets (p : Program) (old new : List l.Target) (done : ℕ) : Type 0 where
   pub kept : (t : l.Target) → IsIn old t → IsIn new t
-  pub past : (i : ℕ) (t u : l.Target) → i < done → slice_get new i ≡ Some t → IsNameOf p t u → IsIn new u
+  pub past : (i : ℕ) (t u : l.Target) →
+      i < done →
+      slice_get new i ≡ Some t →
+      IsNameOf p t u →
+      IsIn new u
   pub within : (t : l.Target) → IsIn new t → WithinTargets p old t
 
 -- all that is within some targets is met, and no more

@@ -27,7 +27,8 @@ use Rattle.bundle_link_targets.specs.Names.{target_pair}
 
 -- what is found of each of these uses of m: what it means, or that it stands for nothing
 abbrev pub AreMeanings : Program → ℕ → List UseEntry → List (Option Meaning) → Type 0
-AreMeanings p m uses found = AllZip (λ its meaning. IsMeaning p m its.local its.words meaning) uses found
+AreMeanings p m uses found =
+    AllZip (λ its meaning. IsMeaning p m its.local its.words meaning) uses found
 
 -- the same of all uses of m
 abbrev pub AreMeaningsOf : Program → ℕ → List (Option Meaning) → Type 0
@@ -39,7 +40,10 @@ HoldsMeanings p lists = (m : ℕ) → IsReached p m → AreMeaningsOf p m (list_
 
 -- what is found of the use of this number in m, where there is one
 abbrev pub IsMeaningAt : Program → ℕ → ℕ → Option Meaning → Type 0
-IsMeaningAt p m number found = (its : UseEntry) → slice_get (uses_of (tree_of p m)) number ≡ Some its → IsMeaning p m its.local its.words found
+IsMeaningAt p m number found =
+    (its : UseEntry) →
+    slice_get (uses_of (tree_of p m)) number ≡ Some its →
+    IsMeaning p m its.local its.words found
 
 -- Linked names.
 
@@ -49,12 +53,15 @@ AreLinkedIn p m pairs = AreLinked p m (map target_pair pairs)
 
 -- those of the entry, and of each module whose namespace is meant
 abbrev pub HoldsLinked : Program → List (Vec (Bor Text × TargetRef) Global) → Type 0
-HoldsLinked p lists = (d : ℕ) → (d ≡ p.entry) ⊎ IsMeant p (Of (Namespace d)) → AreLinkedIn p d (list_in lists d)
+HoldsLinked p lists =
+    (d : ℕ) → (d ≡ p.entry) ⊎ IsMeant p (Of (Namespace d)) → AreLinkedIn p d (list_in lists d)
 
 -- Lists by numbers.
 
 -- of the lists of these numbers it holds now, and of those of which it did
-pub record HoldsOfLists {T : Type 0} (Holds : ℕ → List T → Type 0) (Those : ℕ → Type 0) (old new : List (Vec T Global)) : Type 0 where
+pub record HoldsOfLists
+    {T : Type 0} (Holds : ℕ → List T → Type 0) (Those : ℕ → Type 0)
+    (old new : List (Vec T Global)) : Type 0 where
   pub kept : (n : ℕ) → Holds n (list_in old n) → Holds n (list_in new n)
   pub there : (n : ℕ) → Those n → Holds n (list_in new n)
   pub long : length new ≡ length old
@@ -63,7 +70,9 @@ pub record HoldsOfLists {T : Type 0} (Holds : ℕ → List T → Type 0) (Those 
 
 -- what of an external is meant
 abbrev pub IsExternalOf : Program → External → Type 0
-IsExternalOf p external = AreTaken (λ t. IsMeant p (Of t)) (l.External external.specifier.now) (map (λ name. name.now) external.names.items) external.whole
+IsExternalOf p external =
+    AreTaken (λ t. IsMeant p (Of t)) (l.External external.specifier.now)
+    (map (λ name. name.now) external.names.items) external.whole
 
 -- the externals that the modules of a list ask for, in its order, with what of them is meant
 pub record AreExternalsOf (p : Program) (list : List ℕ) (found : List External) : Type 0 where
@@ -74,11 +83,16 @@ pub record AreExternalsOf (p : Program) (list : List ℕ) (found : List External
 
 -- what of a CommonJS module is meant in m
 abbrev pub IsLoadOf : Program → ℕ → Loaded → Type 0
-IsLoadOf p m loaded = AreTaken (λ t. IsMeant p (Of t)) (l.CommonJs m loaded.which) (map (λ name. name.now) loaded.names.items) loaded.whole
+IsLoadOf p m loaded =
+    AreTaken (λ t. IsMeant p (Of t)) (l.CommonJs m loaded.which)
+    (map (λ name. name.now) loaded.names.items) loaded.whole
 
--- the CommonJS modules that m imports or re-exports, each once, in the order of its declarations, with what of them is meant there
+-- the CommonJS modules that m imports or re-exports, each once, in the order of its declarations,
+-- with what of them is meant there
 pub record AreLoadsIn (p : Program) (m : ℕ) (loads : List Loaded) : Type 0 where
   pub test : ℕ → Bool
   pub tells : (c : ℕ) → TellsCommonJs p c (test c)
-  pub modules : map (λ loaded. loaded.which) loads ≡ numbers_once (filter test (filter_map (resolves p m) (declared_requests (tree_of p m))))
+  pub modules :
+      map (λ loaded. loaded.which) loads
+      ≡ numbers_once (filter test (filter_map (resolves p m) (declared_requests (tree_of p m))))
   pub meant : AreModules p → All (IsLoadOf p m) loads

@@ -28,21 +28,25 @@ fault_says file fault = fault_by fault.kind file fault.name.now
 
 -- no fault of the stage is in the module
 abbrev pub HasNoStageFault : Program → ℕ → ℕ → Type 0
-HasNoStageFault p stage m = (file : Name) (place : ℕ) (f : g.Fault) → ProgramFault p file m stage place f → ⊥
+HasNoStageFault p stage m =
+    (file : Name) (place : ℕ) (f : g.Fault) → ProgramFault p file m stage place f → ⊥
 
 -- the first fault of the stage in the module
 pub record IsFirstFaultIn (p : Program) (stage m : ℕ) (fault : LinkFault) : Type 0 where
   pub here : fault.which ≡ m
   pub place : ℕ
   pub there : (file : Name) → ProgramFault p file m stage place (fault_says file fault)
-  pub least : (file : Name) (other : ℕ) (f : g.Fault) → ProgramFault p file m stage other f → place ≤ other
+  pub least : (file : Name) (other : ℕ) (f : g.Fault) →
+      ProgramFault p file m stage other f →
+      place ≤ other
 
 -- the first of the stage in the module, or none where it has none
 abbrev pub IsFoundIn : Program → ℕ → ℕ → Option LinkFault → Type 0
 IsFoundIn p stage m None = HasNoStageFault p stage m
 IsFoundIn p stage m (Some fault) = IsFirstFaultIn p stage m fault
 
--- the first fault, in the order of judging, of the stages from one on and below another that listed modules have
+-- the first fault, in the order of judging, of the stages from one on and below another that listed
+-- modules have
 pub record IsFirst (p : Program) (list : List ℕ) (from below : ℕ) (fault : LinkFault) : Type 0 where
   pub i : ℕ
   pub listed : slice_get list i ≡ Some fault.which
@@ -60,5 +64,11 @@ pub record IsFirst (p : Program) (list : List ℕ) (from below : ℕ) (fault : L
 
 -- the first of these stages among listed modules, or none where no listed module has one
 abbrev pub IsStageJudged : Program → List ℕ → ℕ → ℕ → Option LinkFault → Type 0
-IsStageJudged p list from below None = (j n stage place : ℕ) (file : Name) (f : g.Fault) → from ≤ stage → stage < below → slice_get list j ≡ Some n → ProgramFault p file n stage place f → ⊥
+IsStageJudged p list from below None =
+    (j n stage place : ℕ) (file : Name) (f : g.Fault) →
+    from ≤ stage →
+    stage < below →
+    slice_get list j ≡ Some n →
+    ProgramFault p file n stage place f →
+    ⊥
 IsStageJudged p list from below (Some fault) = IsFirst p list from below fault

@@ -27,7 +27,8 @@ found_says f.None = r.Nothing
 found_says (f.Two first second) = r.Two (target_of first) (target_of second)
 found_says f.ExternalStar = r.ExternalStar
 
--- the modules that are linked are those of the program: what names are given, which modules are CommonJS, what is meant, what uses mean, and which names are linked
+-- the modules that are linked are those of the program: what names are given, which modules are
+-- CommonJS, what is meant, what uses mean, and which names are linked
 pub record IsLinkingOf (p : Program) (linking : Linking) : Type 0 where
   pub index : IsIndexOf p linking.index
   pub common_js : (c : ℕ) → TellsCommonJs p c (flagged linking.common_js.items c)
@@ -35,7 +36,8 @@ pub record IsLinkingOf (p : Program) (linking : Linking) : Type 0 where
   pub meanings : HoldsMeanings p linking.meant.meanings.items
   pub linked : AreModules p → HoldsLinked p linking.meant.linked.items
 
--- the faults that are told are the first of the listed modules: of the calls of `require`, and of what is judged after the declarations
+-- the faults that are told are the first of the listed modules: of the calls of `require`, and of
+-- what is judged after the declarations
 pub record IsJudgedBy (p : Program) (list : List ℕ) (linking : Linking) : Type 0 where
   pub calls : IsStageJudged p list 0 2 linking.call_fault
   pub links : AreModules p → IsStageJudged p list 3 9 linking.link_fault
@@ -45,7 +47,9 @@ pub record HandsOut (p : Program) (list : List ℕ) (outside : Outside) : Type 0
   pub externals : AreExternalsOf p list outside.externals.items
   pub loads : (m : ℕ) → IsReached p m → AreLoadsIn p m (list_in outside.loads.items m)
   pub symbols : AreSymbols p list outside.symbols
-  pub stars : PicksThose (HasExternalStar p p.entry) (externals_of p list) (map (λ star. star.now) outside.external_stars.items)
+  pub stars :
+      PicksThose (HasExternalStar p p.entry) (externals_of p list)
+      (map (λ star. star.now) outside.external_stars.items)
 
 -- the same of a linking
 abbrev pub HandsOver : Program → List ℕ → Linking → Type 0

@@ -15,9 +15,15 @@ use Rattle.bundle_link_tables.specs.Used.{UseEntry, uses_of}
 
 -- no more of these words is a linked name of a namespace
 abbrev pub EndsReads : Program → Target → List Text → Type 0
-EndsReads p t words = (d : ℕ) (x : Text) (rest : List Text) (u : Target) → t ≡ Namespace d → words ≡ x ∷ rest → Linked p d x u → ⊥
+EndsReads p t words =
+    (d : ℕ) (x : Text) (rest : List Text) (u : Target) →
+    t ≡ Namespace d →
+    words ≡ x ∷ rest →
+    Linked p d x u →
+    ⊥
 
--- `ReadsOn p t words n u`: reads of these words from t on, as many as are linked names of a namespace in turn, mean u; they are n
+-- `ReadsOn p t words n u`: reads of these words from t on, as many as are linked names of a
+-- namespace in turn, mean u; they are n
 pub data ReadsOn (p : Program) : Target → List Text → ℕ → Target → Type 0 where
   done : {t : Target} {words : List Text} → EndsReads p t words → ReadsOn p t words zero t
   on : {d n : ℕ} {x : Text} {words : List Text} {t u : Target} →
@@ -26,7 +32,8 @@ pub data ReadsOn (p : Program) : Target → List Text → ℕ → Target → Typ
       ReadsOn p (Namespace d) (x ∷ words) (suc n) u
 
 -- a name in m with reads of these words around it means the target, with so many of the reads
-pub record WordsMean (p : Program) (m : ℕ) (x : Text) (words : List Text) (n : ℕ) (t : Target) : Type 0 where
+pub record WordsMean
+    (p : Program) (m : ℕ) (x : Text) (words : List Text) (n : ℕ) (t : Target) : Type 0 where
   pub named : Target
   pub stands : StandsFor p m x named
   pub reads : ReadsOn p named words n t
@@ -44,7 +51,8 @@ pub record LinksTo (p : Program) (m : ℕ) (t : Target) : Type 0 where
   pub name : Text
   pub linked : Linked p m name t
 
--- the least set of targets that has what uses in reached modules mean, what the entry's names are linked to, and what the names of each namespace in it are linked to
+-- the least set of targets that has what uses in reached modules mean, what the entry's names are
+-- linked to, and what the names of each namespace in it are linked to
 pub data IsTargetTaken (p : Program) : Target → Type 0 where
   by_use : {m n : ℕ} {its : UseEntry} {t : Target} →
       IsReached p m →
@@ -52,7 +60,10 @@ pub data IsTargetTaken (p : Program) : Target → Type 0 where
       UseMeans p m its n t →
       IsTargetTaken p t
   by_entry : {x : Text} {t : Target} → Linked p p.entry x t → IsTargetTaken p t
-  by_names : {d : ℕ} {x : Text} {t : Target} → IsTargetTaken p (Namespace d) → Linked p d x t → IsTargetTaken p t
+  by_names : {d : ℕ} {x : Text} {t : Target} →
+      IsTargetTaken p (Namespace d) →
+      Linked p d x t →
+      IsTargetTaken p t
 
 -- a target that is no declaration
 abbrev pub IsShared : Target → Type 0
@@ -71,7 +82,8 @@ pub record Encloses (tree : List Item) (begins place : ℕ) : Type 0 where
 abbrev pub IsAtOrAround : List Item → ℕ → ℕ → Type 0
 IsAtOrAround tree begins place = (begins ≡ place) ⊎ Encloses tree begins place
 
--- an element of an own statement stands at the place; at one where a node begins it begins a node too
+-- an element of an own statement stands at the place; at one where a node begins it begins a node
+-- too
 pub record StandsAt (tree : List Item) (place : ℕ) : Type 0 where
   pub statement : List Element
   pub element : Item
@@ -93,7 +105,8 @@ pub record IsModuleTree (tree : List Item) : Type 0 where
   pub stands : (place begins : ℕ) (o : Occurrence) →
       occurrence_at tree place ≡ Some o →
       is_in_statement (path_at tree place) ≡ true →
-      (begins ≡ place) ⊎ (Encloses tree begins place × ((x : Text) × (read_word tree begins ≡ Some x))) →
+      (begins ≡ place)
+      ⊎ (Encloses tree begins place × ((x : Text) × (read_word tree begins ≡ Some x))) →
       StandsAt tree begins
   -- in no `import.meta`
   pub meta : (place begins : ℕ) (o : Occurrence) →

@@ -55,7 +55,8 @@ pub record GainsNames (old : List Text) (Those : Text → Type 0) (new : List Te
 
 -- one of these exports has the name, which is not `default` unless they are the module's own
 abbrev pub IsNamedBy : List Export → Bool → Text → Type 0
-IsNamedBy exports own x = Contains (map (λ export. export.name.now) exports) x × ((own ≡ true) ⊎ (x ≢ default_name))
+IsNamedBy exports own x =
+    Contains (map (λ export. export.name.now) exports) x × ((own ≡ true) ⊎ (x ≢ default_name))
 
 -- the same of a module, by its number
 abbrev pub IsNameOfModule : Option LinkModule → Bool → Text → Type 0

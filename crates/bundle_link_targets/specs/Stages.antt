@@ -15,7 +15,8 @@ use Rattle.bundle_link_targets.specs.declared.faults.Stage.{Stage}
 use Rattle.bundle_link_targets.specs.declared.faults.Stage.TheVariants as s
 use Rattle.bundle_link_targets.specs.Judged.{fault_says}
 
--- modules with their kinds are those of the program, and so is whether the bundle is one function's call
+-- modules with their kinds are those of the program, and so is whether the bundle is one function's
+-- call
 pub record AreKindsOf (p : Program) (kinds : Kinds) : Type 0 where
   pub modules : AreModulesKnown p kinds
   pub iife : p.settings.iife ≡ kinds.setting.iife

@@ -32,7 +32,8 @@ abbrev pub same_target : l.Target → l.Target → Bool
 same_target (l.Declared m x) (l.Declared n y) = (m == n) && bytes_eq x y
 same_target (l.Namespace m) (l.Namespace n) = m == n
 same_target (l.External s taken) (l.External r other) = bytes_eq s r && same_taken taken other
-same_target (l.CommonJs a m taken) (l.CommonJs b n other) = (a == b) && ((m == n) && same_taken taken other)
+same_target (l.CommonJs a m taken) (l.CommonJs b n other) =
+    (a == b) && ((m == n) && same_taken taken other)
 same_target _ _ = false
 
 -- what the first of these calls a target
@@ -59,7 +60,9 @@ named_as kinds m s taken = named_by m s taken (lead_of kinds m s)
 
 -- what an import calls what it takes
 abbrev pub imported_by : Kinds → ℕ → ImportRef → Option Called
-imported_by kinds m import = option_map (λ t. (t, import.local.now)) (named_as kinds m import.specifier.now (taken_of import.taken))
+imported_by kinds m import =
+    option_map (λ t. (t, import.local.now))
+    (named_as kinds m import.specifier.now (taken_of import.taken))
 
 -- the whole that is exported
 abbrev pub whole_in : Kinds → ℕ → Text → Taken → Option l.Target
@@ -72,7 +75,8 @@ taken_in kinds m (o.Local name) = None
 
 -- what an export of a whole calls it
 abbrev pub exported_by : Kinds → ℕ → Export → Option Called
-exported_by kinds m export = option_map (λ t. (t, identifier_of export.name.now)) (taken_in kinds m export.origin)
+exported_by kinds m export =
+    option_map (λ t. (t, identifier_of export.name.now)) (taken_in kinds m export.origin)
 
 -- what the imports, and the exports, of a module call targets, if it is there
 abbrev pub imports_at : Kinds → ℕ → Option LinkModule → List Called
@@ -91,7 +95,8 @@ exports_called kinds m = exports_at kinds m (slice_get kinds.modules.now m)
 
 -- the same of all listed modules: first the imports, then the exports
 abbrev pub named_in : Kinds → List Called
-named_in kinds = flat_map (imports_called kinds) kinds.list.now ++ flat_map (exports_called kinds) kinds.list.now
+named_in kinds =
+    flat_map (imports_called kinds) kinds.list.now ++ flat_map (exports_called kinds) kinds.list.now
 
 -- what is taken without an import or an export of the whole is called so
 abbrev pub name_else : e.Taken → Text
@@ -121,4 +126,9 @@ IsOutsideTarget (l.CommonJs m c taken) = Unit {0}
 
 -- a table of symbols tells what targets of externals and of CommonJS modules are called
 abbrev pub AreSymbols : {S : Type 0} → Program → List ℕ → IndexMap TargetRef (Bor Text) S → Type 0
-AreSymbols p list symbols = (t : TargetRef) → IsOutsideTarget (target_of t) → IsTakable p (target_of t) → unwrap_or (noted_text symbols t) (name_else (target_takes (target_of t))) ≡ symbol_of_target p list (target_of t)
+AreSymbols p list symbols =
+    (t : TargetRef) →
+    IsOutsideTarget (target_of t) →
+    IsTakable p (target_of t) →
+    unwrap_or (noted_text symbols t) (name_else (target_takes (target_of t)))
+    ≡ symbol_of_target p list (target_of t)

@@ -52,7 +52,8 @@ name_list None = []
 name_list (Some list) = list.items
 
 -- the names that a table has for a giver
-abbrev pub names_for : {S : Type 0} → IndexMap Giver (Vec (Bor Text) Global) S → Giver → List (Bor Text)
+abbrev pub names_for :
+    {S : Type 0} → IndexMap Giver (Vec (Bor Text) Global) S → Giver → List (Bor Text)
 names_for names giver = name_list (get_by (giver_impl.ghosts.eq giver) names)
 
 -- a name for one giver is one for another if they are the same
@@ -60,7 +61,8 @@ abbrev pub given_to_giver : Giver → Giver → Bor Text → List (Bor Text)
 given_to_giver giver other name = if giver_impl.ghosts.eq giver other then name ∷ [] else []
 
 -- these are the names of a giver among targets, each once
-pub record HoldNames (giver : Giver) (targets : List l.Target) (names : List (Bor Text)) : Type 0 where
+pub record HoldNames
+    (giver : Giver) (targets : List l.Target) (names : List (Bor Text)) : Type 0 where
   pub there : (x : Text) →
       Contains targets (target_from_giver giver (Named x)) →
       Contains (map (λ name. name.now) names) x
@@ -70,17 +72,22 @@ pub record HoldNames (giver : Giver) (targets : List l.Target) (names : List (Bo
   pub once : IsDistinct (λ x y. bytes_eq x.now y.now) names
 
 -- a table has them of each giver
-abbrev pub AreAllNames : {S : Type 0} → List l.Target → IndexMap Giver (Vec (Bor Text) Global) S → Type 0
+abbrev pub AreAllNames :
+    {S : Type 0} → List l.Target → IndexMap Giver (Vec (Bor Text) Global) S → Type 0
 AreAllNames targets names = (giver : Giver) → HoldNames giver targets (names_for names giver)
 
 -- of what is taken these names are among the targets, ascending, and whether the whole is
-pub record AreTaken (Has : l.Target → Type 0) (of : e.Taken → l.Target) (texts : List Text) (all : Bool) : Type 0 where
+pub record AreTaken
+    (Has : l.Target → Type 0) (of : e.Taken → l.Target) (texts : List Text)
+    (all : Bool) : Type 0 where
   pub names : AreNames (λ x. Has (of (Named x))) texts
   pub whole : IsTrue all ↔ Has (of Whole)
 
 -- the same of an external
 abbrev pub IsExternal : List l.Target → External → Type 0
-IsExternal targets external = AreTaken (IsIn targets) (l.External external.specifier.now) (map (λ name. name.now) external.names.items) external.whole
+IsExternal targets external =
+    AreTaken (IsIn targets) (l.External external.specifier.now)
+    (map (λ name. name.now) external.names.items) external.whole
 
 -- CommonJS modules.
 
@@ -91,7 +98,11 @@ kept_if test (Some c) = if test c then Some c else None
 
 -- the CommonJS module to which a source of m leads
 abbrev pub module_loaded_by : Kinds → ℕ → Source → Option ℕ
-module_loaded_by kinds m source = if source.is_external then None else kept_if (flagged kinds.common_js.items) (required_of kinds.modules.now m source.specifier.now)
+module_loaded_by kinds m source =
+    if source.is_external
+    then None
+    else kept_if (flagged kinds.common_js.items)
+    (required_of kinds.modules.now m source.specifier.now)
 
 -- those to which the sources of m lead, if it is there
 abbrev pub loads_by : Kinds → ℕ → Option LinkModule → List ℕ
@@ -103,10 +114,13 @@ loads_in kinds m = loads_by kinds m (slice_get kinds.modules.now m)
 
 -- what of a CommonJS module is meant in m
 abbrev pub IsLoad : List l.Target → ℕ → Loaded → Type 0
-IsLoad targets m loaded = AreTaken (IsIn targets) (l.CommonJs m loaded.which) (map (λ name. name.now) loaded.names.items) loaded.whole
+IsLoad targets m loaded =
+    AreTaken (IsIn targets) (l.CommonJs m loaded.which) (map (λ name. name.now) loaded.names.items)
+    loaded.whole
 
 -- all that m loads
-pub record AreLoadsOf (kinds : Kinds) (targets : List l.Target) (m : ℕ) (loads : List Loaded) : Type 0 where
+pub record AreLoadsOf
+    (kinds : Kinds) (targets : List l.Target) (m : ℕ) (loads : List Loaded) : Type 0 where
   pub modules : map (λ loaded. loaded.which) loads ≡ numbers_once (loads_in kinds m)
   pub taken : All (IsLoad targets m) loads
 

@@ -12,4 +12,6 @@ items_list items = flat_map (module_item_items 0) items
 
 -- to rename the items of a module by one and then by the other is to rename them by both
 abbrev pub Compose : Renaming → Renaming → Renaming → Type 0
-Compose first second both = (items : List ModuleItem) → renamed_all second (renamed_all first (items_list items)) ≡ renamed_all both (items_list items)
+Compose first second both =
+    (items : List ModuleItem) →
+    renamed_all second (renamed_all first (items_list items)) ≡ renamed_all both (items_list items)

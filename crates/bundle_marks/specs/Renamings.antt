@@ -26,4 +26,5 @@ SaySame one other = (ident : Ident) → lookup (ident_eq ident) one ≡ lookup (
 
 -- what is not spelled out keeps its symbol
 abbrev pub KeepsSymbols : (Ident → r.Change) → Type 0
-KeepsSymbols becomes = (ident : Ident) → (becomes ident).is_spelled_out ≡ false → (becomes ident).ident.0 ≡ ident.0
+KeepsSymbols becomes =
+    (ident : Ident) → (becomes ident).is_spelled_out ≡ false → (becomes ident).ident.0 ≡ ident.0

@@ -57,8 +57,8 @@ pub record AreReadFrom (linker : Linker) (ids : List ℕ) (list : List ℕ) (cop
       IsPartRead read part →
       IsReadAt linker ids m its part
 
--- a context stands inside the object of an `import.meta` that is written already for the module at a place: a binding
--- inside has it
+-- a context stands inside the object of an `import.meta` that is written already for the module at
+-- a place: a binding inside has it
 pub record StandsInside (answers : ℕ → Option HookAnswer) (k ctxt : ℕ) : Type 0 where
   pub own : ℕ
   pub notes : ExportMetadata
@@ -70,7 +70,8 @@ pub record StandsInside (answers : ℕ → Option HookAnswer) (k ctxt : ℕ) : T
   pub i : ℕ
   pub o : Occurrence
   pub there : slice_get (occurrences (properties_tree properties)) i ≡ Some o
-  pub denoted : denoted_as ByContext Es (properties_tree properties) i ≡ Some (Bound (Inner kind begins) name)
+  pub denoted :
+      denoted_as ByContext Es (properties_tree properties) i ≡ Some (Bound (Inner kind begins) name)
   pub is : o.ctxt ≡ ctxt
 
 -- or in it: the object's name has it, or such a binding
@@ -80,8 +81,9 @@ pub data StandsInObject (answers : ℕ → Option HookAnswer) (k ctxt : ℕ) : T
       StandsInObject answers k ctxt
   its_inside : StandsInside answers k ctxt → StandsInObject answers k ctxt
 
--- the contexts of such objects are above that of globals and below the next one, and none is that of a module's top; no
--- two objects have one in common, and no binding inside one has that of its name
+-- the contexts of such objects are above that of globals and below the next one, and none is that
+-- of a module's top; no two objects have one in common, and no binding inside one has that of its
+-- name
 pub record AreObjectsApart (list : List ℕ) (local : ℕ → ℕ) (next : ℕ)
     (answers : ℕ → Option HookAnswer) : Type 0 where
   pub own : (k ctxt : ℕ) → StandsInObject answers k ctxt → 1 < ctxt
@@ -94,8 +96,8 @@ pub record AreObjectsApart (list : List ℕ) (local : ℕ → ℕ) (next : ℕ)
       StandsInside answers k its →
       its ≢ ctxt
 
--- what was read of the modules on the list of a program, whose settings, entry and graph the linker has; each has its
--- context, and in front of its own items stands what the hooks may have answered
+-- what was read of the modules on the list of a program, whose settings, entry and graph the linker
+-- has; each has its context, and in front of its own items stands what the hooks may have answered
 pub record AreReadIn (p : Program) (hooks : Hooks) (linker : Linker) (local : ℕ → ℕ) (next : ℕ)
     (reads : List ReadModule) : Type 0 where
   pub links : Links (config_of linker) p.settings
@@ -132,14 +134,16 @@ pub record IsLinkedRead (linker : Linker) (reads : List ReadModule)
   pub links : List LinkModule
   pub each : AllZip IsLinkRead reads links
   pub linked : (p : Program) →
-      IsLinkProgram p links (numbers_below (length links)) (length links - 1) (config_of linker).require →
+      IsLinkProgram p links (numbers_below (length links)) (length links - 1)
+      (config_of linker).require →
       IsLinkingOf p linking
   pub handed : (p : Program) →
-      IsLinkProgram p links (numbers_below (length links)) (length links - 1) (config_of linker).require →
+      IsLinkProgram p links (numbers_below (length links)) (length links - 1)
+      (config_of linker).require →
       HandsOver p (numbers_below (length links)) linking
 
--- what is merged: the modules that were read, for which the hook is not asked, as they are linked, their blocks, and
--- contexts from this one on
+-- what is merged: the modules that were read, for which the hook is not asked, as they are linked,
+-- their blocks, and contexts from this one on
 pub record IsBundleRead (reads : List ReadModule) (linking : Linking) (blocks : List Block)
     (next : ℕ) (bundle : BundleInput) : Type 0 where
   pub parts : AllZip IsPartRead reads bundle.parts.now

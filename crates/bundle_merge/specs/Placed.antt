@@ -31,8 +31,9 @@ use Rattle.bundle_merge_theory.specs.sound.Known.{LeadsAll}
 use Rattle.bundle_merge_names.specs.Bundle.{IsWrittenIn, list_of_part}
 use Rattle.bundle_merge_names.specs.declared.part.BundleModule.{BundleModule}
 
--- what is so of the modules that the entry of a program reaches, which stand on this list: a check of linking finds
--- nothing, no name is declared twice, each request leads to a module, and each tree is that of a module
+-- what is so of the modules that the entry of a program reaches, which stand on this list: a check
+-- of linking finds nothing, no name is declared twice, each request leads to a module, and each
+-- tree is that of a module
 pub record AreModulesRight (p : Program) (list : List ℕ) : Type 0 where
   pub is_list : IsList p list
   pub checked : IsChecked p None
@@ -45,8 +46,9 @@ pub record AreModulesRight (p : Program) (list : List ℕ) : Type 0 where
   pub fit : (m : ℕ) → IsReached p m → IsFit AModule 0 (tree_of p m)
   pub leads : LeadsAll p
 
--- a part is what was read of module m: its own items, whose list is the module's tree but for contexts and notes, what
--- the names in it denote, its table, and where its requests lead among the places of the list
+-- a part is what was read of module m: its own items, whose list is the module's tree but for
+-- contexts and notes, what the names in it denote, its table, and where its requests lead among the
+-- places of the list
 pub record IsModuleRead (p : Program) (list : List ℕ) (m : ℕ) (part : BundleModule) : Type 0 where
   pub tree : tree_of p m ≡ cleared (list_of_part part)
   pub names : (kind : ModuleKind) →
@@ -60,8 +62,8 @@ pub record IsModuleRead (p : Program) (list : List ℕ) (m : ℕ) (part : Bundle
   pub within : (d : ℕ) (s : Text) → get_by_text part.leads.now s ≡ Some d → d < length list
   pub faultless : (file : Name) × IsFaultless file (list_of_part part)
 
--- what stands in front of the own items of a part: where module m has an `import.meta`, the object that holds it, as it
--- is written already; else nothing
+-- what stands in front of the own items of a part: where module m has an `import.meta`, the object
+-- that holds it, as it is written already; else nothing
 pub data HasFront (p : Program) (hooks : Hooks) (m : ℕ) (part : BundleModule) : Option HookAnswer →
     Type 0 where
   nothing : has_import_meta (tree_of p m) ≡ false →

@@ -1,5 +1,5 @@
--- What is read of the prepared items of a module: its own items, and the name of the statement in front of them that
--- holds its `import.meta`.
+-- What is read of the prepared items of a module: its own items, and the name of the statement in
+-- front of them that holds its `import.meta`.
 use Rattle.std.specs.Prelude.{◌≡◌, ℕ, List, [], ◌∷◌, Option, Some, None, Contains, drop, nat_eq, option_map, slice_get, take, if◌then◌else◌}
 use Rattle.std.specs.List.{flat_map}
 use Rattle.std.specs.BTreeMap.{get_by_text}
@@ -58,9 +58,9 @@ own_part items = without_front (name_held items) items
 abbrev pub own_list : List ModuleItem → List Item
 own_list items = node 0 h.Module (item_list (own_part items))
 
--- a part is what was read of the prepared items of a module of a linker, where the modules on its list have these
--- places: the items, the name of the statement in front, and of the module's own items what the names in their list
--- denote, its tables, and where its requests lead
+-- a part is what was read of the prepared items of a module of a linker, where the modules on its
+-- list have these places: the items, the name of the statement in front, and of the module's own
+-- items what the names in their list denote, its tables, and where its requests lead
 pub record IsReadModuleOf (linker : Linker) (known : TransformedModule) (ids : List ℕ)
     (items : List ModuleItem) (part : BundleModule) : Type 0 where
   pub its_items : part.items.now ≡ items
@@ -69,7 +69,8 @@ pub record IsReadModuleOf (linker : Linker) (known : TransformedModule) (ids : L
       IsLinkerOf p linker →
       HasKind p known.id kind →
       IsDenotationTable BySymbol kind (own_list items) part.denotations.now
-  pub tables : AreTablesOf (config_of linker) (name_of known.file_name) (own_list items) part.tables.now
+  pub tables :
+      AreTablesOf (config_of linker) (name_of known.file_name) (own_list items) part.tables.now
   pub meta : part.tables.now.has_import_meta ≡ has_import_meta (own_list items)
   pub leads : (s : Text) →
       get_by_text part.leads.now s ≡ last_told (module_place ids) known.deps.items s

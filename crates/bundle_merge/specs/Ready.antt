@@ -34,11 +34,15 @@ Answering = Name → Bool → List (List (KeyValueProp Expr))
 abbrev pub listed_properties : List (KeyValueProp Expr) → List Item
 listed_properties its = flat_map (key_value_prop_items 0) its
 
--- the hook that may answer these. What is prepared holds one answer for each module, so that each hook that may have
--- answered these is one of this kind, as far as it was asked
+-- the hook that may answer these. What is prepared holds one answer for each module, so that each
+-- hook that may have answered these is one of this kind, as far as it was asked
 abbrev pub hooks_by : Answering → Hooks
 hooks_by given =
-    record { may_answer = λ file is_entry properties. Contains (map listed_properties (given file is_entry)) properties }
+    record {
+      may_answer =
+          λ file is_entry properties.
+          Contains (map listed_properties (given file is_entry)) properties;
+    }
 
 -- the modules of a linker are those of a program, with these contexts, each request leads to a
 -- module, and the standard's order is not asked for: a linker has no such setting

@@ -24,8 +24,9 @@ use Rattle.bundle_merge.specs.Read.{IsModuleKnown, own_list}
 abbrev pub IsLack : Name → Error → Type 0
 IsLack file error = (error ≡ OutOfMemory) ⊎ IsUsedUp file error
 
--- memory ran out; or contexts of this file do not suffice, as the next number and the scopes and bindings of a program's
--- trees and of what is added to them, counted together, are above the last context
+-- memory ran out; or contexts of this file do not suffice, as the next number and the scopes and
+-- bindings of a program's trees and of what is added to them, counted together, are above the last
+-- context
 abbrev pub MayLack : Program → Hooks → Name → ℕ → Error → Type 0
 MayLack p hooks file next error =
     (error ≡ OutOfMemory) ⊎ (IsUsedUp file error × NeedsTooManyContexts p hooks next)
@@ -35,20 +36,26 @@ abbrev pub MayLackNames : Program → Hooks → ℕ → MergeError → Type 0
 MayLackNames p hooks next e.OutOfMemory = ⊤
 MayLackNames p hooks next (e.ContextsUsedUp its) = NeedsTooManyContexts p hooks next
 
--- memory ran out, or contexts of this file do not suffice, as all are used up and none is the next one
+-- memory ran out, or contexts of this file do not suffice, as all are used up and none is the next
+-- one
 abbrev pub IsLackAfter : Name → numbers.FreshContexts → Error → Type 0
 IsLackAfter file contexts error =
     (error ≡ OutOfMemory) ⊎ (IsUsedUp file error × (position contexts ≡ 4294967296))
 
--- memory ran out, or the first fault is told that a tree has by itself, in the file of one of these modules
+-- memory ran out, or the first fault is told that a tree has by itself, in the file of one of these
+-- modules
 abbrev pub IsMergeRefusal : List TransformedModule → Error → Type 0
-IsMergeRefusal modules error = (error ≡ OutOfMemory) ⊎ ((m : TransformedModule) × (tree : List Item) × Contains modules m × IsTreeRefusal (name_of m.file_name) tree error)
+IsMergeRefusal modules error =
+    (error ≡ OutOfMemory)
+    ⊎ ((m : TransformedModule) × (tree : List Item) × Contains modules m
+    × IsTreeRefusal (name_of m.file_name) tree error)
 
 -- either of these
 abbrev pub MayRefuseMerge : Name → List TransformedModule → Error → Type 0
 MayRefuseMerge file modules error = IsLack file error ⊎ IsMergeRefusal modules error
 
--- of the modules on a list these items are read: the first fault is told that the own items of one of them have
+-- of the modules on a list these items are read: the first fault is told that the own items of one
+-- of them have
 pub record HasOwnFault (linker : Linker) (list : List ℕ) (copies : List Module) (error : Error) :
     Type 0 where
   pub place : ℕ

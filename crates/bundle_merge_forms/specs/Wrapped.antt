@@ -1,4 +1,5 @@
--- What the call of one function holds: the statements of a module, and what its list of exports gives.
+-- What the call of one function holds: the statements of a module, and what its list of exports
+-- gives.
 use Rattle.std.specs.Prelude.{◌≡◌, List, [], ◌∷◌, ◌++◌, Option, Some, None, flat_map, map, string_bytes}
 use Rattle.std.specs.Global.{Global}
 use Rattle.std.specs.List.{All}
@@ -36,7 +37,8 @@ exported_under (Some (export_name.Str name)) l = string_bytes name.value
 
 -- what a specifier of an identifier gives: the name, with the identifier
 abbrev pub given_by : ExportSpecifier → List (Text × Ident)
-given_by (ExportNamedSpecifier (export_name.Ident l) name) = (exported_under name l, (string_bytes l.sym, l.ctxt)) ∷ []
+given_by (ExportNamedSpecifier (export_name.Ident l) name) =
+    (exported_under name l, (string_bytes l.sym, l.ctxt)) ∷ []
 given_by _ = []
 
 -- what a list of exports gives

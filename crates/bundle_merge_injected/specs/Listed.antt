@@ -1,4 +1,5 @@
--- The list of each form that a linker adds, with the identifiers that stand in it (ECMA-262, 13 to 16).
+-- The list of each form that a linker adds, with the identifiers that stand in it (ECMA-262, 13 to
+-- 16).
 use Rattle.std.specs.Prelude.{ℕ, Bool, false, List, [], ◌∷◌, ◌++◌, Option, Some, None, codes, flat_map, if◌then◌else◌}
 use Rattle.bundle_syntax.specs.declared.kind.ExportMetadata.{ExportMetadata}
 use Rattle.bundle_syntax.specs.declared.kind.VarDeclKind.TheVariants.{Var, Const}
@@ -41,13 +42,15 @@ string_in field x = node field (h.Str x None) []
 
 -- the name of an import or an export
 abbrev pub export_name_in : ℕ → Text → List Item
-export_name_in field x = if is_ascii_identifier x then h.Ident field x 0 Word ∷ [] else string_in field x
+export_name_in field x =
+    if is_ascii_identifier x then h.Ident field x 0 Word ∷ [] else string_in field x
 
 -- Functions, calls and declarations.
 
 -- `function (p, ..) { .. }`
 abbrev pub function_in : ℕ → List Item → List Item → List Item
-function_in field params stmts = node field (h.Function false false) (params ++ node 1 h.BlockStmt stmts)
+function_in field params stmts =
+    node field (h.Function false false) (params ++ node 1 h.BlockStmt stmts)
 
 -- a parameter
 abbrev pub parameter : Ident → List Item
@@ -73,15 +76,19 @@ constant notes l value = node 0 (h.VarDecl Const notes) (declarator (pattern_of 
 
 -- `x as l`
 abbrev pub import_specifier : Text × Ident → List Item
-import_specifier pair = node 0 h.ImportNamedSpecifier (named 0 Binding pair.1 ++ export_name_in 1 pair.0)
+import_specifier pair =
+    node 0 h.ImportNamedSpecifier (named 0 Binding pair.1 ++ export_name_in 1 pair.0)
 
 -- `import { x as l, .. } from 's';`
 abbrev pub import_names : Text → List (Text × Ident) → List Item
-import_names s pairs = node 0 (h.ImportDecl no_notes) (flat_map import_specifier pairs ++ string_in 1 s)
+import_names s pairs =
+    node 0 (h.ImportDecl no_notes) (flat_map import_specifier pairs ++ string_in 1 s)
 
 -- `import * as l from 's';`
 abbrev pub import_whole : Text → Ident → List Item
-import_whole s l = node 0 (h.ImportDecl no_notes) (node 0 h.ImportStarAsSpecifier (named 0 Binding l) ++ string_in 1 s)
+import_whole s l =
+    node 0 (h.ImportDecl no_notes)
+    (node 0 h.ImportStarAsSpecifier (named 0 Binding l) ++ string_in 1 s)
 
 -- `import 's';`
 abbrev pub import_bare : Text → List Item
@@ -93,7 +100,8 @@ export_star s = node 0 (h.ExportAll no_notes) (string_in 0 s)
 
 -- `l as x`
 abbrev pub export_specifier : Text × Ident → List Item
-export_specifier pair = node 0 h.ExportNamedSpecifier (named 0 Reference pair.1 ++ export_name_in 1 pair.0)
+export_specifier pair =
+    node 0 h.ExportNamedSpecifier (named 0 Reference pair.1 ++ export_name_in 1 pair.0)
 
 -- `export { l as x, .. };`
 abbrev pub export_list : List (Text × Ident) → List Item
@@ -101,13 +109,18 @@ export_list pairs = node 0 (h.NamedExport no_notes) (flat_map export_specifier p
 
 -- `(function () { .. })()`, or the same of an async function
 abbrev pub called : Bool → List Item → List Item
-called is_async stmts = node 0 h.CallExpr (node 0 h.ParenExpr (node 0 h.FnExpr (node 1 (h.Function false is_async) (node 1 h.BlockStmt stmts))))
+called is_async stmts =
+    node 0 h.CallExpr
+    (node 0 h.ParenExpr
+    (node 0 h.FnExpr (node 1 (h.Function false is_async) (node 1 h.BlockStmt stmts))))
 
 -- The object of a namespace.
 
 -- `const object = function () { return { x: l, .. }; }();`
 abbrev pub namespace_object : ExportMetadata → Ident → List (Text × Ident) → List Item
-namespace_object notes object pairs = constant notes object (call_in 1 (node 0 h.FnExpr (function_in 1 [] (returned_object pairs))) [])
+namespace_object notes object pairs =
+    constant notes object
+    (call_in 1 (node 0 h.FnExpr (function_in 1 [] (returned_object pairs))) [])
 
 -- CommonJS modules.
 
@@ -123,22 +136,30 @@ load_property pair = node 0 h.KeyValuePatProp (returned_key pair.0 ++ pattern_of
 abbrev pub load_pattern : List (Text × Ident) → List Item
 load_pattern pairs = node 0 h.ObjectPat (flat_map load_property pairs)
 
--- the statement by which a module loads a CommonJS module: `load();`, `var { x: l, .. } = load();`, `var w = load();` or `var w = load(), { x: l, .. } = w;`
+-- the statement by which a module loads a CommonJS module: `load();`, `var { x: l, .. } = load();`,
+-- `var w = load();` or `var w = load(), { x: l, .. } = w;`
 abbrev pub load_statement : Ident → Option Ident → List (Text × Ident) → List Item
 load_statement load None [] = node 0 h.ExprStmt (load_call 0 load)
-load_statement load None (pair ∷ more) = node 0 (h.VarDecl Var no_notes) (declarator (load_pattern (pair ∷ more)) (load_call 1 load))
-load_statement load (Some w) [] = node 0 (h.VarDecl Var no_notes) (declarator (pattern_of 0 Binding w) (load_call 1 load))
+load_statement load None (pair ∷ more) =
+    node 0 (h.VarDecl Var no_notes) (declarator (load_pattern (pair ∷ more)) (load_call 1 load))
+load_statement load (Some w) [] =
+    node 0 (h.VarDecl Var no_notes) (declarator (pattern_of 0 Binding w) (load_call 1 load))
 load_statement load (Some w) (pair ∷ more) =
-    node 0 (h.VarDecl Var no_notes) (declarator (pattern_of 0 Binding w) (load_call 1 load) ++ declarator (load_pattern (pair ∷ more)) (named 1 Reference w))
+    node 0 (h.VarDecl Var no_notes)
+    (declarator (pattern_of 0 Binding w) (load_call 1 load)
+    ++ declarator (load_pattern (pair ∷ more)) (named 1 Reference w))
 
 -- `function (m, e) { .. }`, as an argument
 abbrev pub load_argument : Ident → Ident → List Item → List Item
-load_argument m e stmts = argument (node 1 h.FnExpr (function_in 1 (parameter m ++ parameter e) stmts))
+load_argument m e stmts =
+    argument (node 1 h.FnExpr (function_in 1 (parameter m ++ parameter e) stmts))
 
 -- `var load = helper(function (m, e) { .. });`, with these statements
 abbrev pub load_function : Ident → Ident → Ident → Ident → List Item → List Item
 load_function load helper m e stmts =
-    node 0 (h.VarDecl Var no_notes) (declarator (pattern_of 0 Binding load) (call_in 1 (named 0 Reference helper) (load_argument m e stmts)))
+    node 0 (h.VarDecl Var no_notes)
+    (declarator (pattern_of 0 Binding load)
+    (call_in 1 (named 0 Reference helper) (load_argument m e stmts)))
 
 -- The helper: `function helper(f) { var m; return function () { if (!m) { m = { exports: {} };
 -- f.call(m.exports, m, m.exports); } return m.exports; }; }`
@@ -153,11 +174,15 @@ exported = node 0 h.KeyValueProp (word_in 0 (codes "exports") ++ node 1 h.Object
 
 -- `m = { exports: {} };`
 abbrev pub makes_module : Ident → List Item
-makes_module m = node 0 h.ExprStmt (node 0 (h.AssignExpr Assign) (pattern_of 1 Reference m ++ node 2 h.ObjectLit exported))
+makes_module m =
+    node 0 h.ExprStmt
+    (node 0 (h.AssignExpr Assign) (pattern_of 1 Reference m ++ node 2 h.ObjectLit exported))
 
 -- `m.exports, m, m.exports`
 abbrev pub run_arguments : Ident → List Item
-run_arguments m = argument (member 1 m (codes "exports")) ++ argument (named 1 Reference m) ++ argument (member 1 m (codes "exports"))
+run_arguments m =
+    argument (member 1 m (codes "exports")) ++ argument (named 1 Reference m)
+    ++ argument (member 1 m (codes "exports"))
 
 -- `f.call(m.exports, m, m.exports);`
 abbrev pub runs_module : Ident → Ident → List Item
@@ -165,7 +190,10 @@ runs_module f m = node 0 h.ExprStmt (call_in 0 (member 0 f (codes "call")) (run_
 
 -- `if (!m) { .. }`
 abbrev pub loads_once : Ident → Ident → List Item
-loads_once f m = node 0 h.IfStmt (node 0 (h.UnaryExpr Bang) (named 1 Reference m) ++ node 1 h.BlockStmt (makes_module m ++ runs_module f m))
+loads_once f m =
+    node 0 h.IfStmt
+    (node 0 (h.UnaryExpr Bang) (named 1 Reference m)
+    ++ node 1 h.BlockStmt (makes_module m ++ runs_module f m))
 
 -- `return m.exports;`
 abbrev pub returns_exports : Ident → List Item
@@ -175,8 +203,10 @@ returns_exports m = node 0 h.ReturnStmt (member 0 m (codes "exports"))
 abbrev pub helper_body : Ident → Ident → List Item
 helper_body f m =
     node 0 (h.VarDecl Var no_notes) (node 1 h.VarDeclarator (pattern_of 0 Binding m))
-    ++ node 0 h.ReturnStmt (node 0 h.FnExpr (function_in 1 [] (loads_once f m ++ returns_exports m)))
+    ++ node 0 h.ReturnStmt
+    (node 0 h.FnExpr (function_in 1 [] (loads_once f m ++ returns_exports m)))
 
 -- the helper
 abbrev pub helper_function : Ident → Ident → Ident → List Item
-helper_function helper f m = node 0 h.FnDecl (named 0 Binding helper ++ function_in 1 (parameter f) (helper_body f m))
+helper_function helper f m =
+    node 0 h.FnDecl (named 0 Binding helper ++ function_in 1 (parameter f) (helper_body f m))

@@ -200,7 +200,8 @@ pub fn load_function<'a>(
     ensures { IfOk result (λ made.
         stmt_items 0 made
         ≡ listed.load_function (ident_of names.entry.load) (ident_of names.entry.helper)
-        (ident_of names.entry.module_object) (ident_of names.entry.exports) (each_stmt_items 0 stmts)) }
+        (ident_of names.entry.module_object) (ident_of names.entry.exports)
+        (each_stmt_items 0 stmts)) }
 {
     let value = load_value(alloc, names, stmts)?;
     let name = pattern(alloc, names.load)?;
@@ -211,7 +212,8 @@ pub fn load_function<'a>(
 fn load_value<'a>(alloc: Global, names: LoadNames<'a>, stmts: Vec<Stmt>) -> Result<Expr, AllocError>
     ensures { IfOk result (λ made. (field : ℕ) → expr_items field made
         ≡ call_in field (named 0 Reference (ident_of names.entry.helper)) (listed.load_argument
-        (ident_of names.entry.module_object) (ident_of names.entry.exports) (each_stmt_items 0 stmts))) }
+        (ident_of names.entry.module_object) (ident_of names.entry.exports)
+        (each_stmt_items 0 stmts))) }
 {
     let callee = reference(alloc, names.helper)?;
     let args = load_argument(alloc, names, stmts)?;
@@ -225,7 +227,8 @@ fn load_argument<'a>(
     stmts: Vec<Stmt>,
 ) -> Result<Vec<ExprOrSpread>, AllocError>
     ensures { IfOk result (λ made. each_expr_or_spread_items 1 made ≡ listed.load_argument
-        (ident_of names.entry.module_object) (ident_of names.entry.exports) (each_stmt_items 0 stmts)) }
+        (ident_of names.entry.module_object) (ident_of names.entry.exports)
+        (each_stmt_items 0 stmts)) }
 {
     let params = parameters(alloc, &[names.module_object, names.exports])?;
     one_argument(alloc, function(params, stmts))
@@ -282,7 +285,8 @@ fn helper_body<'a>(alloc: Global, names: HelperNames<'a>) -> Result<Vec<Stmt>, A
 // `function () { if (!module) { .. } return module.exports; }`
 fn loader<'a>(alloc: Global, names: HelperNames<'a>) -> Result<Expr, AllocError>
     ensures { IfOk result (λ made. expr_items 0 made ≡ node 0 FnExpr
-        (function_in 1 [] (loads_once (ident_of names.entry.func) (ident_of names.entry.module_object)
+        (function_in 1 []
+        (loads_once (ident_of names.entry.func) (ident_of names.entry.module_object)
         ++ returns_exports (ident_of names.entry.module_object)))) }
 {
     let once = load_once(alloc, names)?;

@@ -117,7 +117,8 @@ AreLinkedBy linking m linked =
     AreLinked p m (map target_pair linked)
 
 -- the linked names of module m, each with what stands for it
-pub record AreLinkedPairs (linking : Linking) (names : BundleNames) (m : ℕ) (pairs : List (Text × Ident)) :
+pub record AreLinkedPairs (linking : Linking) (names : BundleNames) (m : ℕ)
+    (pairs : List (Text × Ident)) :
     Type 0 where
   pub linked : List (Bor Text × TargetRef)
   pub by : AreLinkedBy linking m linked

@@ -1,4 +1,5 @@
--- When a bundle whose modules are merged is that of a program, and what is added is made for causes.
+-- When a bundle whose modules are merged is that of a program, and what is added is made for
+-- causes.
 use Rattle.std.specs.Prelude.{◌≡◌, ℕ, zero, ◌&&◌, not, true, Bool, List, ◌++◌, ◌∷◌, [], Option, Some, None, length, map, slice_get, unwrap_or, ⊤}
 use Rattle.std.specs.List.{AllZip}
 use Rattle.bundle_tree_ast.specs.declared.module.Module.{Module}
@@ -79,7 +80,8 @@ pub record AddsItems (q : Program) (list : List ℕ) (answers : ℕ → Option H
   pub is : module_item_lists new ≡ module_item_lists old ++ made
 
 -- the same for each program whose bundle this is, where such causes are its
-abbrev pub AddsFor : BundleInput → BundleNames → (Program → List Cause → Type 0) → Module → Module → Type 0
+abbrev pub AddsFor :
+    BundleInput → BundleNames → (Program → List Cause → Type 0) → Module → Module → Type 0
 AddsFor bundle names Are old new =
     (q : Program) (list : List ℕ) (answers : ℕ → Option HookAnswer) (context : BundleContexts)
     (causes : List Cause) → IsNamedBundle q list answers context bundle names → Are q causes →

@@ -31,7 +31,8 @@ InBundle bundle names Holds =
 -- what a plan has of what is decided is added
 abbrev pub AddsPlan : BundleInput → BundleNames → (Decided → List Cause) → Module → Module → Type 0
 AddsPlan bundle names plan old new =
-    InBundle bundle names (λ q list answers context d. AddsItems q list answers context (plan d) old new)
+    InBundle bundle names
+    (λ q list answers context d. AddsItems q list answers context (plan d) old new)
 
 -- these are numbers of modules of a bundle
 abbrev pub AreBundleModules : BundleInput → List ℕ → Type 0
@@ -52,8 +53,8 @@ AddsOwned bundle names plan old new before after =
     AreOwned q list answers context causes old before →
     AreOwned q list answers context (causes ++ plan d) new after)
 
--- items stand in an order that is good for them, as they are of these modules, or as they stood where
--- they are not to be sorted
+-- items stand in an order that is good for them, as they are of these modules, or as they stood
+-- where they are not to be sorted
 pub record IsBlockPlaced (is_sorted : Bool) (before : List (List Item)) (owners : List (Option ℕ))
     (placed : List (List Item)) : Type 0 where
   pub order : List ℕ
@@ -65,7 +66,9 @@ pub record IsBlockPlaced (is_sorted : Bool) (before : List (List Item)) (owners 
 pub record IsBlockPut (q : Program) (list : List ℕ) (answers : ℕ → Option HookAnswer)
     (context : BundleContexts) (d : Decided) (block : Block) (items : Module) : Type 0 where
   pub order : List ℕ
-  pub made : IsBlockMade q any_hooks list context answers d (block_of block) order (module_item_lists items)
+  pub made :
+      IsBlockMade q any_hooks list context answers d (block_of block) order
+      (module_item_lists items)
 
 -- the items of blocks are added behind those that are there
 pub record AddsBlocks (q : Program) (list : List ℕ) (answers : ℕ → Option HookAnswer)

@@ -1,4 +1,5 @@
--- What the items of a module state in a bundle, in turn, with what becomes of the module's occurrences.
+-- What the items of a module state in a bundle, in turn, with what becomes of the module's
+-- occurrences.
 use Rattle.std.specs.Prelude.{ℕ, Bool, true, false, List, [], ◌∷◌, ◌++◌, Option, Some, None, drop, filter, length, map}
 use Rattle.bundle_syntax.specs.Item as h
 use Rattle.bundle_syntax.specs.Item.{Item}

@@ -48,7 +48,8 @@ is_reference _ = false
 
 -- the identifier in a field, where its role passes a test
 abbrev pub named_in_field : (Role → Bool) → ℕ → Option Item → Option Ident
-named_in_field test field (Some (h.Ident at sym ctxt role)) = if nat_eq at field && test role then Some (sym, ctxt) else None
+named_in_field test field (Some (h.Ident at sym ctxt role)) =
+    if nat_eq at field && test role then Some (sym, ctxt) else None
 named_in_field test field _ = None
 
 -- two, where both are there
@@ -62,8 +63,14 @@ is_framed items =
     length items == 8
     && (begins_in_field is_const_head 0 (slice_get items 0)
     && (begins_in_field is_declarator_head 1 (slice_get items 1)
-    && (begins_in_field is_pattern_head 0 (slice_get items 2) && (is_node_end (slice_get items 4) && (is_node_end (slice_get items 6) && is_node_end (slice_get items 7))))))
+    && (begins_in_field is_pattern_head 0 (slice_get items 2)
+    && (is_node_end (slice_get items 4)
+    && (is_node_end (slice_get items 6) && is_node_end (slice_get items 7))))))
 
 -- what the item makes an alias, and of what
 abbrev pub alias_in : List Item → Option (Ident × Ident)
-alias_in items = if is_framed items then both (named_in_field is_binding_role 0 (slice_get items 3)) (named_in_field is_reference 1 (slice_get items 5)) else None
+alias_in items =
+    if is_framed items
+    then both (named_in_field is_binding_role 0 (slice_get items 3))
+    (named_in_field is_reference 1 (slice_get items 5))
+    else None

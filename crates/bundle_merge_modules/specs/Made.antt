@@ -15,7 +15,9 @@ use Rattle.bundle_merge_modules.specs.Pairs.{AliasPair}
 -- an item that makes an alias goes, and any other is renamed
 abbrev pub IsItemInlined : Renaming → List Item → Option (List Item) → Type 0
 IsItemInlined renaming item None = (a : Ident) × (b : Ident) × MakesAlias item a b
-IsItemInlined renaming item (Some made) = ((a b : Ident) → MakesAlias item a b → ⊥) × ((it : ModuleItem) × (module_item_items 0 it ≡ item)) × (made ≡ renamed_all renaming item)
+IsItemInlined renaming item (Some made) =
+    ((a b : Ident) → MakesAlias item a b → ⊥)
+    × ((it : ModuleItem) × (module_item_items 0 it ≡ item)) × (made ≡ renamed_all renaming item)
 
 -- one or none, as a list
 abbrev pub option_list : {A : Type 0} → Option A → List A

@@ -14,7 +14,9 @@ AliasPair = IdName × IdName
 
 -- one of the pairs makes a an alias of b
 abbrev pub IsPair : List AliasPair → Ident → Ident → Type 0
-IsPair pairs a b = (i : ℕ) × (pair : AliasPair) × (slice_get pairs i ≡ Some pair) × (ident_named pair.0 ≡ a) × (ident_named pair.1 ≡ b)
+IsPair pairs a b =
+    (i : ℕ) × (pair : AliasPair) × (slice_get pairs i ≡ Some pair) × (ident_named pair.0 ≡ a)
+    × (ident_named pair.1 ≡ b)
 
 -- none is an alias of two
 abbrev pub AreOnceAliased : List AliasPair → Type 0
@@ -22,7 +24,9 @@ AreOnceAliased pairs = (a b c : Ident) → IsPair pairs a b → IsPair pairs a c
 
 -- each identifier becomes the end of its chain
 abbrev pub LeadsToEnds : (Ident → Ident → Type 0) → Renaming → Type 0
-LeadsToEnds Alias renaming = (ident : Ident) → (end : Ident) × ChainEnd Alias ident end × (change_by renaming ident ≡ change_to ident end)
+LeadsToEnds Alias renaming =
+    (ident : Ident) →
+    (end : Ident) × ChainEnd Alias ident end × (change_by renaming ident ≡ change_to ident end)
 
 -- the number of a pair by what is an alias there, of the first so many pairs
 pub record AreAliasNumbers (pairs : List AliasPair) (count : ℕ)
@@ -40,8 +44,10 @@ pub record AreAliasNumbers (pairs : List AliasPair) (count : ℕ)
 abbrev pub next_by : BTreeMap IdName ℕ → List AliasPair → List (Option ℕ)
 next_by numbers pairs = map (λ pair. get name_cmp numbers pair.1) pairs
 
--- what a renaming says of an identifier that is an alias of one of the first so many pairs, and of any other
-pub record Stepped (pairs : List AliasPair) (ends : List ℕ) (renaming : Renaming) (ident : Ident) : Type 0 where
+-- what a renaming says of an identifier that is an alias of one of the first so many pairs, and of
+-- any other
+pub record Stepped
+    (pairs : List AliasPair) (ends : List ℕ) (renaming : Renaming) (ident : Ident) : Type 0 where
   pub i : ℕ
   pub from : AliasPair
   pub to : AliasPair
@@ -53,7 +59,11 @@ pub record Stepped (pairs : List AliasPair) (ends : List ℕ) (renaming : Renami
 pub record IsAliasKept (pairs : List AliasPair) (count : ℕ) (renaming : Renaming)
     (ident : Ident) : Type 0 where
   pub said : lookup (ident_eq ident) renaming ≡ None
-  pub none : (i : ℕ) (pair : AliasPair) → i < count → slice_get pairs i ≡ Some pair → ident_named pair.0 ≢ ident
+  pub none : (i : ℕ) (pair : AliasPair) →
+      i < count →
+      slice_get pairs i ≡ Some pair →
+      ident_named pair.0 ≢ ident
 
 abbrev pub AreRenamingSteps : List AliasPair → List ℕ → ℕ → Renaming → Type 0
-AreRenamingSteps pairs ends count renaming = (ident : Ident) → Stepped pairs ends renaming ident ⊎ IsAliasKept pairs count renaming ident
+AreRenamingSteps pairs ends count renaming =
+    (ident : Ident) → Stepped pairs ends renaming ident ⊎ IsAliasKept pairs count renaming ident

@@ -1,5 +1,5 @@
--- Lists of items by module, of whatever kind: what stands in front, the bodies, and what stands behind. Each part holds
--- pairs of a module and an item, by modules as these first came into it.
+-- Lists of items by module, of whatever kind: what stands in front, the bodies, and what stands
+-- behind. Each part holds pairs of a module and an item, by modules as these first came into it.
 use Rattle.std.specs.Prelude.{◌≡◌, ℕ, ◌==◌, nat_eq, not, Bool, true, false, List, [], ◌∷◌, ◌++◌, Option, Some, None, map, filter, length, IsPermutation, if◌then◌else◌}
 use Rattle.std.specs.List.{AllZip}
 use Rattle.bundle_order_sort.specs.Arranged.{AreArranged, IsArrangement}
@@ -15,7 +15,8 @@ others m pairs = filter (λ pair. if nat_eq pair.0 m then false else true) pairs
 -- the items by modules, as these first come, each module's in their order
 abbrev pub by_modules_of : {A : Type 0} → List (OwnedOf A) → List (OwnedOf A)
 by_modules_of [] = []
-by_modules_of ((m, item) ∷ rest) = (m, item) ∷ (filter (λ pair. nat_eq pair.0 m) rest ++ others m (by_modules_of rest))
+by_modules_of ((m, item) ∷ rest) =
+    (m, item) ∷ (filter (λ pair. nat_eq pair.0 m) rest ++ others m (by_modules_of rest))
 
 -- the items of a module
 abbrev pub items_of_owner : {A : Type 0} → List (OwnedOf A) → ℕ → List A
@@ -53,7 +54,8 @@ pub record IsArrangedAs {A : Type 0} (m : ℕ) (order : List ℕ)
   pub items : List A
   pub is : after ≡ body_held m items
   pub moved : IsPermutation (items_held before) items
-  pub arranged : IsArrangement order (length (items_held before)) → AreArranged order (items_held before) items
+  pub arranged : IsArrangement order (length (items_held before)) →
+      AreArranged order (items_held before) items
 
 -- one more item, behind the last one of its module; at the end where the module has none
 abbrev pub put_last : {A : Type 0} → List (OwnedOf A) → OwnedOf A → List (OwnedOf A)
@@ -91,13 +93,18 @@ lists_in_order_of held =
     lists_by_module held.prepended ++ (lists_by_module held.bodies ++ lists_by_module held.appended)
 
 -- something holds of each part before and after
-pub record HoldsOfEachPart {A : Type 0} (Holds : List (OwnedOf A) → List (OwnedOf A) → Type 0) (before after : HeldOf A) : Type 0 where
+pub record HoldsOfEachPart
+    {A : Type 0} (Holds : List (OwnedOf A) → List (OwnedOf A) → Type 0)
+    (before after : HeldOf A) : Type 0 where
   pub prepended : Holds before.prepended after.prepended
   pub bodies : Holds before.bodies after.bodies
   pub appended : Holds before.appended after.appended
 
--- `ListsAnswered May pairs modules new`: for each of these modules, its list of items is replaced by what may be answered to it
-pub data ListsAnsweredOf {A : Type 0} (May : ℕ → List A → List A → Type 0) (pairs : List (OwnedOf A)) : List ℕ → List (OwnedOf A) → Type 0 where
+-- `ListsAnswered May pairs modules new`: for each of these modules, its list of items is replaced
+-- by what may be answered to it
+pub data ListsAnsweredOf
+    {A : Type 0} (May : ℕ → List A → List A → Type 0) (pairs : List (OwnedOf A)) :
+    List ℕ → List (OwnedOf A) → Type 0 where
   over : ListsAnsweredOf May pairs [] []
   next : {m : ℕ} {rest : List ℕ} {new : List (OwnedOf A)} (answer : List A) →
       May m (items_of_owner pairs m) answer →
@@ -107,7 +114,8 @@ pub data ListsAnsweredOf {A : Type 0} (May : ℕ → List A → List A → Type 
 -- each module's list of items in each part is replaced by an answer
 abbrev pub MapsListsOf : {A : Type 0} → (ℕ → List A → List A → Type 0) → HeldOf A → HeldOf A →
     Type 0
-MapsListsOf May before after = HoldsOfEachPart (λ old new. ListsAnsweredOf May old (modules_of_part old) new) before after
+MapsListsOf May before after =
+    HoldsOfEachPart (λ old new. ListsAnsweredOf May old (modules_of_part old) new) before after
 
 -- an item of the same module, as may be answered
 pub record ItemAnsweredOf {A : Type 0} (May : ℕ → A → A → Type 0)
@@ -119,8 +127,10 @@ pub record ItemAnsweredOf {A : Type 0} (May : ℕ → A → A → Type 0)
 abbrev pub MapsItemsOf : {A : Type 0} → (ℕ → A → A → Type 0) → HeldOf A → HeldOf A → Type 0
 MapsItemsOf May before after = HoldsOfEachPart (AllZip (ItemAnsweredOf May)) before after
 
--- `Retained May old new`: an item for which true is answered stays, and one for which false is answered goes
-pub data RetainedOf {A : Type 0} (May : ℕ → A → Bool → Type 0) : List (OwnedOf A) → List (OwnedOf A) → Type 0 where
+-- `Retained May old new`: an item for which true is answered stays, and one for which false is
+-- answered goes
+pub data RetainedOf {A : Type 0} (May : ℕ → A → Bool → Type 0) :
+    List (OwnedOf A) → List (OwnedOf A) → Type 0 where
   over : RetainedOf May [] []
   stays : {one : OwnedOf A} {old new : List (OwnedOf A)} →
       May one.0 one.1 true →
@@ -135,8 +145,10 @@ pub data RetainedOf {A : Type 0} (May : ℕ → A → Bool → Type 0) : List (O
 abbrev pub RetainsOf : {A : Type 0} → (ℕ → A → Bool → Type 0) → HeldOf A → HeldOf A → Type 0
 RetainsOf May before after = HoldsOfEachPart (RetainedOf May) before after
 
--- `Answered May old new`: an item for which none is answered goes, and any other is replaced by its answer
-pub data Answered {A : Type 0} (May : ℕ → A → Option A → Type 0) : List (OwnedOf A) → List (OwnedOf A) → Type 0 where
+-- `Answered May old new`: an item for which none is answered goes, and any other is replaced by its
+-- answer
+pub data Answered {A : Type 0} (May : ℕ → A → Option A → Type 0) :
+    List (OwnedOf A) → List (OwnedOf A) → Type 0 where
   over : Answered May [] []
   goes : {m : ℕ} {item : A} {old new : List (OwnedOf A)} →
       May m item None →

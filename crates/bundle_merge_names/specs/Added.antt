@@ -20,9 +20,14 @@ use Rattle.bundle_merge_names.specs.Named.{held, holder_of}
 use Rattle.bundle_merge_names.specs.Numbers.{position}
 
 -- just those of which it holds get names, and all others keep what they have
-pub record GivesNames (p : Program) (list : List ℕ) (Those : Holder → Type 0) (old new : BundleNames) : Type 0 where
-  pub kept : (other : Label) (ident : Ident) → held old other ≡ Some ident → held new other ≡ Some ident
-  pub there : (other : Label) → Those (holder_of other) → (ident : Ident) × (held new other ≡ Some ident)
+pub record GivesNames
+    (p : Program) (list : List ℕ) (Those : Holder → Type 0) (old new : BundleNames) : Type 0 where
+  pub kept : (other : Label) (ident : Ident) →
+      held old other ≡ Some ident →
+      held new other ≡ Some ident
+  pub there : (other : Label) →
+      Those (holder_of other) →
+      (ident : Ident) × (held new other ≡ Some ident)
   pub others : (other : Label) (ident : Ident) →
       held new other ≡ Some ident →
       (held old other ≡ Some ident)
@@ -79,7 +84,8 @@ pub record IsWholeOf (base : l.Target) (whole : Bool) (holder : Holder) : Type 0
   pub is : holder ≡ NameOf (m.Of (with_taken base Whole))
 
 -- one of these names, or the whole
-pub data IsTakenOf (base : l.Target) (names : List Text) (whole : Bool) (holder : Holder) : Type 0 where
+pub data IsTakenOf
+    (base : l.Target) (names : List Text) (whole : Bool) (holder : Holder) : Type 0 where
   by_name : (x : Text) →
       Contains names x →
       holder ≡ NameOf (m.Of (with_taken base (Named x))) →

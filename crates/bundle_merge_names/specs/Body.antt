@@ -61,7 +61,8 @@ past_by false number = number
 -- the module to which the call that is told leads, where its name stands at this place
 abbrev pub module_called : (Text → Option ℕ) → ℕ → Option RequireCall → Option ℕ
 module_called leads place None = None
-module_called leads place (Some call) = if suc call.place == place then leads call.specifier.now else None
+module_called leads place (Some call) =
+    if suc call.place == place then leads call.specifier.now else None
 
 -- what linking finds of the use of this number in a module
 abbrev pub IsUseFound : Linking → ℕ → ℕ → Option Meaning → Type 0
@@ -73,7 +74,9 @@ abbrev pub MeansNothing : Linking → ℕ → ℕ → Bool → Type 0
 MeansNothing linking k number is_use = is_use ≡ true → IsUseFound linking k number None
 
 -- what becomes of the name at a place, behind so many uses and calls
-pub data IsRewritten (part : BundleModule) (k : ℕ) (linking : Linking) (names : BundleNames) (uses calls place : ℕ) (own rewrite : Rewrite) : Type 0 where
+pub data IsRewritten
+    (part : BundleModule) (k : ℕ) (linking : Linking) (names : BundleNames) (uses calls place : ℕ)
+    (own rewrite : Rewrite) : Type 0 where
   by_use : (meaning : Meaning) →
       is_use_at place (slice_get part.tables.now.uses.items uses) ≡ true →
       IsUseFound linking k uses (Some meaning) →
@@ -81,17 +84,21 @@ pub data IsRewritten (part : BundleModule) (k : ℕ) (linking : Linking) (names 
       IsRewritten part k linking names uses calls place own rewrite
   by_call : (c : ℕ) →
       MeansNothing linking k uses (is_use_at place (slice_get part.tables.now.uses.items uses)) →
-      module_called (get_by_text part.leads.now) place (slice_get part.tables.now.calls.items calls) ≡ Some c →
+      module_called (get_by_text part.leads.now) place (slice_get part.tables.now.calls.items calls)
+      ≡ Some c →
       rewrite_told rewrite ≡ (label_ident names (n.Load c), w.Call) →
       IsRewritten part k linking names uses calls place own rewrite
   by_own :
       MeansNothing linking k uses (is_use_at place (slice_get part.tables.now.uses.items uses)) →
-      module_called (get_by_text part.leads.now) place (slice_get part.tables.now.calls.items calls) ≡ None →
+      module_called (get_by_text part.leads.now) place (slice_get part.tables.now.calls.items calls)
+      ≡ None →
       rewrite_told rewrite ≡ rewrite_told own →
       IsRewritten part k linking names uses calls place own rewrite
 
--- a module of a program, read as this kind, with its list and its tables, linked, where names are those of the contexts
-pub record IsModuleReadAs (p : Program) (list : List ℕ) (context : BundleContexts) (k : ℕ) (kind : ModuleKind) (part : BundleModule)
+-- a module of a program, read as this kind, with its list and its tables, linked, where names are
+-- those of the contexts
+pub record IsModuleReadAs (p : Program) (list : List ℕ) (context : BundleContexts) (k : ℕ)
+    (kind : ModuleKind) (part : BundleModule)
     (linking : Linking) (names : BundleNames) : Type 0 where
   pub reached : IsReached p k
   pub modules : AreModules p
@@ -101,7 +108,9 @@ pub record IsModuleReadAs (p : Program) (list : List ℕ) (context : BundleConte
   pub tables : IsTableOf p k part.tables.now
   pub meta : part.tables.now.has_import_meta ≡ has_import_meta (tree_of p k)
   pub leads : (s : Text) → p.leads k s ≡ get_by_text part.leads.now s
-  pub numbers : AreNumbersOf kind (list_of_part part) part.denotations.now (numbers_in context k) (scopes_in names k)
+  pub numbers :
+      AreNumbersOf kind (list_of_part part) part.denotations.now (numbers_in context k)
+      (scopes_in names k)
   pub targets : (t : TargetRef) →
       m.IsMeant p (m.Of (target_of t)) →
       target_ident names t ≡ ident_of_label p list context (m.Of (target_of t))
@@ -116,7 +125,8 @@ pub record IsModuleReadAs (p : Program) (list : List ℕ) (context : BundleConte
 abbrev pub AreModuleRewrites : Program → List ℕ → BundleContexts → ℕ → ModuleKind → List Rewrite →
     Type 0
 AreModuleRewrites p list context k kind rewrites =
-    AllZip (λ o rewrite. IsStep p list context k kind o (rewrite_step rewrite)) (occurrences (tree_of p k)) rewrites
+    AllZip (λ o rewrite. IsStep p list context k kind o (rewrite_step rewrite))
+    (occurrences (tree_of p k)) rewrites
 
 -- the identifier of an occurrence of a list, where its bindings have the contexts of a numbering
 abbrev pub numbered_ident : ModuleKind → List Item → Numbering → Occurrence → Ident
@@ -126,4 +136,5 @@ numbered_ident kind items g o =
 -- these become the occurrences of a list in turn, each what it denotes
 abbrev pub AreOwnSteps : ModuleKind → List Item → Numbering → List Rewrite → Type 0
 AreOwnSteps kind items g rewrites =
-    AllZip (λ o rewrite. IsStepTo (numbered_ident kind items g o) w.Alone (rewrite_step rewrite)) (occurrences items) rewrites
+    AllZip (λ o rewrite. IsStepTo (numbered_ident kind items g o) w.Alone (rewrite_step rewrite))
+    (occurrences items) rewrites

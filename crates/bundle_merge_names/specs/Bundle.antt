@@ -46,7 +46,8 @@ written_items part = take (if is_some part.written then 1 else 0) part.items.now
 abbrev pub list_of_part : BundleModule → List Item
 list_of_part part = node 0 h.Module (flat_map (module_item_items 0) (own_items part))
 
--- a part is that of a module: its items, what the names in their list denote, its tables, and where its requests lead
+-- a part is that of a module: its items, what the names in their list denote, its tables, and where
+-- its requests lead
 pub record IsPartOf (p : Program) (m : ℕ) (part : BundleModule) : Type 0 where
   pub tree : tree_of p m ≡ cleared (list_of_part part)
   pub table : (kind : ModuleKind) →
@@ -115,8 +116,11 @@ pub record AreWrittenApart (p : Program) (answers : ℕ → Option HookAnswer)
       IsHolder p answers (WrittenIn m its) →
       its ≢ ctxt
 
--- what a bundle is made of is that of a program whose modules are numbered by their places, where the hook answered this for them
-pub record AreBundleParts (p : Program) (list : List ℕ) (answers : ℕ → Option HookAnswer) (bundle : BundleInput) : Type 0 where
+-- what a bundle is made of is that of a program whose modules are numbered by their places, where
+-- the hook answered this for them
+pub record AreBundleParts
+    (p : Program) (list : List ℕ) (answers : ℕ → Option HookAnswer)
+    (bundle : BundleInput) : Type 0 where
   pub reached : (m : ℕ) → IsReached p m ↔ (m < length bundle.parts.now)
   pub entry : suc p.entry ≡ length bundle.parts.now
   pub places : list ≡ numbers_from zero (length bundle.parts.now)
@@ -131,7 +135,9 @@ pub record AreBundleParts (p : Program) (list : List ℕ) (answers : ℕ → Opt
   pub written : AreWrittenApart p answers bundle
   pub own : (m : ℕ) (part : BundleModule) → slice_get bundle.parts.now m ≡ Some part →
       1 < part.local
-  pub free : (m : ℕ) (part : BundleModule) → slice_get bundle.parts.now m ≡ Some part → part.local < position bundle.contexts
+  pub free : (m : ℕ) (part : BundleModule) →
+      slice_get bundle.parts.now m ≡ Some part →
+      part.local < position bundle.contexts
   pub apart : (m n : ℕ) (part other : BundleModule) →
       slice_get bundle.parts.now m ≡ Some part →
       slice_get bundle.parts.now n ≡ Some other →
@@ -157,9 +163,11 @@ pub record GetsContext (answers : ℕ → Option HookAnswer) (a : Holder) : Type
   pub unwritten : (m ctxt : ℕ) → a ≡ WrittenIn m ctxt → ⊥
   pub fresh : (m : ℕ) → a ≡ NameOf (Meta m) → stands_written (answers m) ≡ false
 
--- the names of a bundle are those of these contexts, which tell apart what has one; what gets one has
--- it from the first free one on, and the next free one is above all
-pub record AreNamesOf (p : Program) (list : List ℕ) (answers : ℕ → Option HookAnswer) (context : BundleContexts) (bundle : BundleInput) (names : BundleNames) : Type 0 where
+-- the names of a bundle are those of these contexts, which tell apart what has one; what gets one
+-- has it from the first free one on, and the next free one is above all
+pub record AreNamesOf
+    (p : Program) (list : List ℕ) (answers : ℕ → Option HookAnswer) (context : BundleContexts)
+    (bundle : BundleInput) (names : BundleNames) : Type 0 where
   pub apart : TellApart p answers context
   pub below : (a : Holder) → IsHolder p answers a → context a < position names.contexts
   pub from : (a : Holder) →
@@ -173,11 +181,13 @@ pub record AreNamesOf (p : Program) (list : List ℕ) (answers : ℕ → Option 
   pub scopes : (m : ℕ) (part : BundleModule) (kind : ModuleKind) →
       slice_get bundle.parts.now m ≡ Some part →
       HasKind p m kind →
-      AreNumbersOf kind (list_of_part part) part.denotations.now (numbers_in context m) (scopes_in names m)
+      AreNumbersOf kind (list_of_part part) part.denotations.now (numbers_in context m)
+      (scopes_in names m)
   pub answered : (m : ℕ) (its : Answered) →
       m < length bundle.parts.now →
       slice_get bundle.answers.now m ≡ Some (Some its) →
-      AreNumbersOf Es (map item_of its.pieces.now) its.denotations.now (numbers_answered context m) (answered_in names m)
+      AreNumbersOf Es (map item_of its.pieces.now) its.denotations.now (numbers_answered context m)
+      (answered_in names m)
   pub metas : (m ctxt : ℕ) (notes : ExportMetadata) (properties : List Item) →
       m < length bundle.parts.now →
       answers m ≡ Some (Written ctxt notes properties) →

@@ -9,7 +9,8 @@ use Rattle.bundle_merge_names.specs.declared.names.BundleNames.{BundleNames}
 use Rattle.bundle_merge_names.specs.Named.{held, holder_of}
 use Rattle.bundle_merge_names.specs.Numbers.{position}
 
--- the contexts of labels stand from this one on, below the next one, and no two that stand for two have one
+-- the contexts of labels stand from this one on, below the next one, and no two that stand for two
+-- have one
 pub record AreLabelContexts (from : ℕ) (names : BundleNames) : Type 0 where
   pub within : (label : Label) (ident : Ident) →
       held names label ≡ Some ident →
@@ -33,7 +34,9 @@ pub record AreTakenByLabels (from : ℕ) (names : BundleNames) : Type 0 where
 
 -- the label has a name, which is this symbol where it had none, and all others keep theirs
 pub record GivesName (label : Label) (symbol : Text) (old new : BundleNames) : Type 0 where
-  pub kept : (other : Label) (ident : Ident) → held old other ≡ Some ident → held new other ≡ Some ident
+  pub kept : (other : Label) (ident : Ident) →
+      held old other ≡ Some ident →
+      held new other ≡ Some ident
   pub there : (ident : Ident) × (held new label ≡ Some ident)
   pub others : (other : Label) (ident : Ident) →
       held new other ≡ Some ident →

@@ -13,7 +13,8 @@ use Rattle.bundle_merge_names.specs.declared.names.BundleNames.{BundleNames}
 
 -- each label that is due has its identifier, but for objects of `import.meta`, and each module the
 -- context of its top
-pub record AreBundleNamesOf (p : Program) (list : List ℕ) (context : BundleContexts) (names : BundleNames) : Type 0 where
+pub record AreBundleNamesOf
+    (p : Program) (list : List ℕ) (context : BundleContexts) (names : BundleNames) : Type 0 where
   pub targets : (t : TargetRef) →
       IsMeant p (Of (target_of t)) →
       target_ident names t ≡ ident_of_label p list context (Of (target_of t))

@@ -37,8 +37,10 @@ context_by contexts (Some binding) = context_in contexts binding.scope
 
 -- the identifier that an entry of the table becomes
 abbrev pub own_ident : List Item → Denotations → List (Option ℕ) → Denoted → Ident
-own_ident items table contexts entry =
-    (ident_symbol (slice_get items entry.place), context_by contexts (binding_in table.bindings.items entry.binding))
+own_ident items table contexts entry = (
+  ident_symbol (slice_get items entry.place),
+  context_by contexts (binding_in table.bindings.items entry.binding),
+)
 
 -- the identifier that a rewrite puts, and how much it stands for
 abbrev pub rewrite_told : Rewrite → Ident × Whole
@@ -49,5 +51,7 @@ abbrev pub own_told : List Item → Denotations → List (Option ℕ) → Denote
 own_told items table contexts entry = (own_ident items table contexts entry, w.Alone)
 
 -- the same, told of a rewrite
-pub record IsOwnName (items : List Item) (table : Denotations) (contexts : List (Option ℕ)) (entry : Denoted) (rewrite : Rewrite) : Type 0 where
+pub record IsOwnName
+    (items : List Item) (table : Denotations) (contexts : List (Option ℕ)) (entry : Denoted)
+    (rewrite : Rewrite) : Type 0 where
   pub its : rewrite_told rewrite ≡ own_told items table contexts entry

@@ -77,8 +77,8 @@ pub record TakesFew (p : Program) (list : List ℕ) (answers : ℕ → Option Ho
       ((m : ℕ) → IsReached p m → HasAtMost p answers m (most m)) →
       to ≤ next + sum_of most list + length holders
 
--- a bundle gets no names: for memory, or since no context is left for a scope of a module or of what
--- the hook answered for it, or for a label
+-- a bundle gets no names: for memory, or since no context is left for a scope of a module or of
+-- what the hook answered for it, or for a label
 pub data RefusesNames (p : Program) (list : List ℕ) (answers : ℕ → Option HookAnswer)
     (next : ℕ) : MergeError → Type 0 where
   for_scopes : {refusal : MergeError} →

@@ -31,7 +31,8 @@ dependencies_of item = item.dependencies.items
 abbrev pub references_of : SharedItem → List Reference
 references_of item = item.references.items
 
--- the binding of the top that an identifier denotes, where this is told of its place; a plain word denotes none
+-- the binding of the top that an identifier denotes, where this is told of its place; a plain word
+-- denotes none
 abbrev pub top_in : Role → TopBinding → Option ℕ
 top_in r.Binding told = told.top
 top_in r.Reference told = told.top

@@ -19,14 +19,16 @@ abbrev pub begun : List (List Item) → List Item
 begun lists = h.Open 0 h.Module ∷ flat lists
 
 -- a group holds items with these lists, one after another, each of the module that is told or free
-pub record IsGroup (group : Group) (lists : List (List Item)) (owners : List (Option ℕ)) : Type 0 where
+pub record IsGroup
+    (group : Group) (lists : List (List Item)) (owners : List (Option ℕ)) : Type 0 where
   pub list : map item_of group.list.items ≡ begun lists
   pub cut : (rest : List Item) → cut_items (begun lists ++ rest) group.ranges.items ≡ placed 1 lists
   pub owned : map range_module group.ranges.items ≡ owners
 
 -- the group of these items in the words of the definitions, each item where it stands
 abbrev pub group_placed : List (List Item) → List (Option ℕ) → o.Group
-group_placed lists owners = group_of ByContext Top (tree_of_items (flat lists)) (placed 1 lists) owners
+group_placed lists owners =
+    group_of ByContext Top (tree_of_items (flat lists)) (placed 1 lists) owners
 
 -- a range of the code, as its two ends
 abbrev pub ends_of : Range ℕ → ℕ × ℕ
@@ -34,7 +36,12 @@ ends_of range = (range.start, range.end)
 
 -- the ranges ascend and do not overlap
 abbrev pub AreAscending : List (ℕ × ℕ) → Type 0
-AreAscending ranges = (i j : ℕ) (a b : ℕ × ℕ) → i < j → slice_get ranges i ≡ Some a → slice_get ranges j ≡ Some b → a.1 ≤ b.0
+AreAscending ranges =
+    (i j : ℕ) (a b : ℕ × ℕ) →
+    i < j →
+    slice_get ranges i ≡ Some a →
+    slice_get ranges j ≡ Some b →
+    a.1 ≤ b.0
 
 -- the ranges before this one end at a number or before it
 abbrev pub ArePast : List (ℕ × ℕ) → ℕ → ℕ → Type 0

@@ -44,7 +44,8 @@ pub record AreIndependent (graph : Statements) (count : ℕ) : Type 0 where
   pub none : (a b : ℕ) → weight graph a b ≡ None
 
 -- of these dependencies of item s, one of so many, one that counts is on item t
-pub record ListsDependency (Counts : Bool → Type 0) (dependencies : List Dependency) (count s t : ℕ) : Type 0 where
+pub record ListsDependency
+    (Counts : Bool → Type 0) (dependencies : List Dependency) (count s t : ℕ) : Type 0 where
   pub is_weak : Bool
   pub counts : Counts is_weak
   pub listed : Contains dependencies (record { item = t; is_weak = is_weak })
@@ -52,13 +53,15 @@ pub record ListsDependency (Counts : Bool → Type 0) (dependencies : List Depen
   pub other : t ≢ s
 
 -- of the edges that `Leads` tells, new has those of old and from s one to each item that is listed
-abbrev pub GainsEdges : (Statements → ℕ → ℕ → Type 0) → (Bool → Type 0) → Statements → Statements → ℕ → ℕ → List Dependency → Type 0
+abbrev pub GainsEdges : (Statements → ℕ → ℕ → Type 0) → (Bool → Type 0) → Statements → Statements →
+    ℕ → ℕ → List Dependency → Type 0
 GainsEdges Leads Counts old new s count dependencies =
     (x y : ℕ) →
     Leads new x y ↔ (Leads old x y ⊎ ((x ≡ s) × ListsDependency Counts dependencies count s y))
 
 -- new is old with these dependencies of item s, one of so many
-pub record GrowsGraph (old new : Statements) (s count : ℕ) (dependencies : List Dependency) : Type 0 where
+pub record GrowsGraph
+    (old new : Statements) (s count : ℕ) (dependencies : List Dependency) : Type 0 where
   pub nodes : AreItemNodes new count
   pub once : AreOnce old.nodes → AreOnce new.nodes
   pub edges : GainsEdges IsDependency (λ is_weak. Unit {0}) old new s count dependencies

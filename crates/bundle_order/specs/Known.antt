@@ -18,7 +18,8 @@ delays (h.ClassProp false) field = field == 1
 delays (h.PrivateProp false) field = field == 1
 delays _ field = false
 
--- a place with these nodes around it is assigned, is in a chain that is, or lies in an argument, just as is known
+-- a place with these nodes around it is assigned, is in a chain that is, or lies in an argument,
+-- just as is known
 pub record IsKnown (spot : ItemSpot) (path : List Around) : Type 0 where
   pub assigned : spot.is_assigned ≡ is_assigned path
   pub ends : spot.ends_chain ≡ ends_chain path
@@ -27,4 +28,5 @@ pub record IsKnown (spot : ItemSpot) (path : List Around) : Type 0 where
 
 -- the nodes around a place in this field of an open node
 abbrev pub path_in : ItemFrame → ℕ → List Around → List Around
-path_in frame field outer = record { head = head_of frame.node; begins = frame.begins; field = field } ∷ outer
+path_in frame field outer =
+    record { head = head_of frame.node; begins = frame.begins; field = field } ∷ outer

@@ -16,13 +16,16 @@ numbered_mention told item o = record {
   assigned = is_assigned o.path;
   argument = is_in_argument o.path;
   chain = roots_chain o.path;
-  prototype = is_prototype_read item o.path && is_in_assign_of (λ place. (told place).is_object) item o.path;
+  prototype =
+      is_prototype_read item o.path
+      && is_in_assign_of (λ place. (told place).is_object) item o.path;
   valueless = is_binding o.role && has_no_value item o.path;
 }
 
 -- the identifiers of an item of a list, where this is told of the places of the list
 abbrev pub numbered_row : (ℕ → TopBinding) → TopItem → List Mention
-numbered_row told item = map (numbered_mention (λ place. told (item.start + place)) item.items) (occurrences item.items)
+numbered_row told item =
+    map (numbered_mention (λ place. told (item.start + place)) item.items) (occurrences item.items)
 
 -- items of a list with their modules as a group
 abbrev pub numbered_group : (ℕ → TopBinding) → List TopItem → List (Option ℕ) → Group

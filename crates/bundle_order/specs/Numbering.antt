@@ -1,4 +1,5 @@
--- The numbering of items that are to be sorted: those of modules in their order, and then the free ones.
+-- The numbering of items that are to be sorted: those of modules in their order, and then the free
+-- ones.
 use Rattle.std.specs.Prelude.{◌≡◌, ℕ, ◌+◌, Bool, true, false, not, cond, List, [], ◌∷◌, ◌++◌, length, map, slice_get, slice_index_or, option_map}
 use Rattle.std.specs.List.{AllZip}
 use Rattle.bundle_syntax.specs.Item.{Item}
@@ -25,7 +26,10 @@ place_of are_free at number = record { at = at; owner = owner_by (number, are_fr
 abbrev pub chosen_places : Bool → ℕ → List (List Item) → List ℕ → List ItemPlace
 chosen_places are_free i [] owners = []
 chosen_places are_free i (item ∷ items) [] = []
-chosen_places are_free i (item ∷ items) (number ∷ owners) = cond (is_chosen are_free item) (place_of are_free i number ∷ chosen_places are_free (i + 1) items owners) (chosen_places are_free (i + 1) items owners)
+chosen_places are_free i (item ∷ items) (number ∷ owners) =
+    cond (is_chosen are_free item)
+    (place_of are_free i number ∷ chosen_places are_free (i + 1) items owners)
+    (chosen_places are_free (i + 1) items owners)
 
 -- the places of all items in their numbering
 abbrev pub all_places : List (List Item) → List ℕ → List ItemPlace
@@ -39,13 +43,23 @@ abbrev pub at_of : ItemPlace → ℕ
 at_of place = place.at
 
 -- the order of the places of items sorts the modules that these are of
-pub record IsSortedBy (modules : List (List (List Item))) (items : List (List Item)) (order : List ℕ) : Type 0 where
+pub record IsSortedBy
+    (modules : List (List (List Item))) (items : List (List Item)) (order : List ℕ) : Type 0 where
   pub numbers : List ℕ
-  pub good : IsGoodOrder (group_of_items (flat (map (λ one. one.0) (numbered_items modules))) (map (λ one. one.1) (numbered_items modules))) numbers
-  pub each : AllZip (λ n at. option_map (λ one. one.0) (slice_get (numbered_items modules) n) ≡ slice_get items at) numbers order
+  pub good :
+      IsGoodOrder
+      (group_of_items (flat (map (λ one. one.0) (numbered_items modules)))
+      (map (λ one. one.1) (numbered_items modules))) numbers
+  pub each :
+      AllZip
+      (λ n at.
+      option_map (λ one. one.0) (slice_get (numbered_items modules) n) ≡ slice_get items at)
+      numbers order
   pub whole : IsArrangement order (length items)
 
 -- the order of the places of a module's items is their own, with the free ones last
 pub record IsOwnOrder (items : List (List Item)) (order : List ℕ) : Type 0 where
-  pub listed : map (λ at. slice_index_or items at []) order ≡ map (λ one. one.0) (numbered_items (items ∷ []))
+  pub listed :
+      map (λ at. slice_index_or items at []) order
+      ≡ map (λ one. one.0) (numbered_items (items ∷ []))
   pub whole : IsArrangement order (length items)

@@ -32,7 +32,11 @@ is_global_object _ = false
 
 -- what an entry of the table tells of the element at its place
 abbrev pub told_of : Item → Denotations → ℕ → Denoted → TopBinding
-told_of item table top entry = record { top = top_of table top entry; is_object = not (is_some entry.binding) && is_global_object item }
+told_of item table top entry =
+    record {
+      top = top_of table top entry;
+      is_object = not (is_some entry.binding) && is_global_object item;
+    }
 
 -- the same, if there is such an element
 abbrev pub told_by : Option Item → Denotations → ℕ → Denoted → TopBinding
@@ -41,7 +45,11 @@ told_by (Some item) table top entry = told_of item table top entry
 
 -- what these entries of the table tell of a place, the last one of it
 abbrev pub told_in : List Denoted → List Item → Denotations → ℕ → ℕ → TopBinding
-told_in entries items table top place = fold (λ told entry. cond (nat_eq entry.place place) (told_by (slice_get items place) table top entry) told) no_binding_told entries
+told_in entries items table top place =
+    fold
+    (λ told entry.
+    cond (nat_eq entry.place place) (told_by (slice_get items place) table top entry) told)
+    no_binding_told entries
 
 -- what the table tells of a place
 abbrev pub told_at : List Item → Denotations → ℕ → ℕ → TopBinding

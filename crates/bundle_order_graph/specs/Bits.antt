@@ -1,4 +1,5 @@
--- Rows of bits: position p of a row is bit p % 64 of its word p / 64, and words that are missing are 0.
+-- Rows of bits: position p of a row is bit p % 64 of its word p / 64, and words that are missing
+-- are 0.
 use Rattle.std.specs.Prelude.{◌≡◌, ◌≢◌, ℕ, ◌-◌, ◌/◌, ◌%◌, ◌^◌, ◌<◌, ◌≤◌, ◌⊎◌, ◌↔◌, List, [], length, sum_by, slice_index, slice_index_or, Contains}
 use Rattle.std.specs.Int.{bit_at}
 use Rattle.bundle_order_graph.specs.Modules.{Modules, Requests}
@@ -58,7 +59,8 @@ IsEdge edges i j = Contains edges (i, j)
 abbrev pub IsWithin : ℕ → ℕ × ℕ → Type 0
 IsWithin n edge = (edge.0 < n) × (edge.1 < n)
 
--- the row of i gains position to, and all that the row of to has; nothing else changes, and no row changes its length
+-- the row of i gains position to, and all that the row of to has; nothing else changes, and no row
+-- changes its length
 pub record Absorbs (old : List (List ℕ)) (at to : ℕ) (new : List (List ℕ)) : Type 0 where
   pub len : length new ≡ length old
   pub lens : (i : ℕ) → length (row_at new i) ≡ length (row_at old i)

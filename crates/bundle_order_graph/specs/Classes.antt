@@ -17,21 +17,32 @@ AreReversed edges users = (s t : ℕ) → Leads users t s ↔ Leads edges s t
 
 -- the item is noted as a user of each of these, and no other is
 abbrev pub AddsUser : List ℕ → ℕ → List (List ℕ) → List (List ℕ) → Type 0
-AddsUser ends user old new = (s t : ℕ) → Leads new t s ↔ (Leads old t s ⊎ ((s ≡ user) × Contains ends t))
+AddsUser ends user old new =
+    (s t : ℕ) → Leads new t s ↔ (Leads old t s ⊎ ((s ≡ user) × Contains ends t))
 
--- an edge leads to an item that does not rank above the one that it leaves; and where it does not rank below, a path leads back. Items that rank alike reach each other
+-- an edge leads to an item that does not rank above the one that it leaves; and where it does not
+-- rank below, a path leads back. Items that rank alike reach each other
 pub record AreRanks (edges : List (List ℕ)) (ranks : List ℕ) : Type 0 where
   pub len : length ranks ≡ length edges
   pub small : (s : ℕ) → s < length edges → slice_index ranks s < length edges
-  pub alike : (s t : ℕ) → s < length edges → t < length edges → slice_index ranks s ≡ slice_index ranks t → Reaches (Leads edges) s t
+  pub alike : (s t : ℕ) →
+      s < length edges →
+      t < length edges →
+      slice_index ranks s ≡ slice_index ranks t →
+      Reaches (Leads edges) s t
   pub falls : (s t : ℕ) → Leads edges s t → slice_index ranks t ≤ slice_index ranks s
-  pub back : (s t : ℕ) → Leads edges s t → slice_index ranks s ≤ slice_index ranks t → Path (Leads edges) t s
+  pub back : (s t : ℕ) →
+      Leads edges s t →
+      slice_index ranks s ≤ slice_index ranks t →
+      Path (Leads edges) t s
 
 -- all that is listed from place k up to place j is reached from t
 abbrev pub ReachesAll : List (List ℕ) → List ℕ → ℕ → ℕ → ℕ → Type 0
-ReachesAll edges listed t k j = (m : ℕ) → k ≤ m → m ≤ j → Reaches (Leads edges) t (slice_index listed m)
+ReachesAll edges listed t k j =
+    (m : ℕ) → k ≤ m → m ≤ j → Reaches (Leads edges) t (slice_index listed m)
 
--- where t is, to which an edge leads from what is listed at place k: listed before, or listed from there on, and then all up to it is reached from it
+-- where t is, to which an edge leads from what is listed at place k: listed before, or listed from
+-- there on, and then all up to it is reached from it
 pub data IsListed (edges : List (List ℕ)) (listed : List ℕ) (k t : ℕ) : Type 0 where
   earlier : (j : ℕ) → j < k → slice_index listed j ≡ t → IsListed edges listed k t
   later : (j : ℕ) →
@@ -41,12 +52,16 @@ pub data IsListed (edges : List (List ℕ)) (listed : List ℕ) (k t : ℕ) : Ty
       ReachesAll edges listed t k j →
       IsListed edges listed k t
 
--- a post-order of all items: each once, and of an edge to an item that is listed later, that item reaches all that is listed up to it
+-- a post-order of all items: each once, and of an edge to an item that is listed later, that item
+-- reaches all that is listed up to it
 pub record IsPostOrder (edges : List (List ℕ)) (listed : List ℕ) : Type 0 where
   pub within : (k : ℕ) → k < length listed → slice_index listed k < length edges
   pub all : (t : ℕ) → t < length edges → Contains listed t
   pub once : (i j : ℕ) → i < j → j < length listed → slice_index listed i ≢ slice_index listed j
-  pub back : (k t : ℕ) → k < length listed → Leads edges (slice_index listed k) t → IsListed edges listed k t
+  pub back : (k t : ℕ) →
+      k < length listed →
+      Leads edges (slice_index listed k) t →
+      IsListed edges listed k t
 
 -- The walk that lists them.
 
@@ -59,8 +74,10 @@ visit_at visits i = slice_index_or visits i no_visit
 abbrev pub IsBegun : List Bool → ℕ → Type 0
 IsBegun begun t = slice_index_or begun t false ≡ true
 
--- where t is: listed, or still open, and then all that was listed from place k on is reached from it
-pub data IsMet (edges : List (List ℕ)) (visits : List Visit) (listed : List ℕ) (k t : ℕ) : Type 0 where
+-- where t is: listed, or still open, and then all that was listed from place k on is reached from
+-- it
+pub data IsMet
+    (edges : List (List ℕ)) (visits : List Visit) (listed : List ℕ) (k t : ℕ) : Type 0 where
   is_listed : IsListed edges listed k t → IsMet edges visits listed k t
   is_open : (i : ℕ) →
       i < length visits →
@@ -69,14 +86,19 @@ pub data IsMet (edges : List (List ℕ)) (visits : List Visit) (listed : List �
       IsMet edges visits listed k t
 
 -- the walk has come this far: what is begun is listed or open
-pub record Walking (edges : List (List ℕ)) (begun : List Bool) (visits : List Visit) (listed : List ℕ) : Type 0 where
+pub record Walking
+    (edges : List (List ℕ)) (begun : List Bool) (visits : List Visit)
+    (listed : List ℕ) : Type 0 where
   pub len : length begun ≡ length edges
   pub found : (t : ℕ) →
       IsBegun begun t →
       Contains listed t ⊎ ((i : ℕ) × (i < length visits) × ((visit_at visits i).item ≡ t))
   -- the open ones
   pub open_begun : (i : ℕ) → i < length visits → IsBegun begun (visit_at visits i).item
-  pub open_once : (i j : ℕ) → i < j → j < length visits → (visit_at visits i).item ≢ (visit_at visits j).item
+  pub open_once : (i j : ℕ) →
+      i < j →
+      j < length visits →
+      (visit_at visits i).item ≢ (visit_at visits j).item
   pub apart : (i k : ℕ) →
       i < length visits →
       k < length listed →
@@ -107,7 +129,8 @@ rank_of ranks x = slice_index_or ranks x None
 abbrev pub IsRanked : List (Option ℕ) → ℕ → Type 0
 IsRanked ranks x = (q : ℕ) × (rank_of ranks x ≡ Some q)
 
--- item x is of the class whose last item is listed at place q: it reaches that one, and all listed between is reached from that one
+-- item x is of the class whose last item is listed at place q: it reaches that one, and all listed
+-- between is reached from that one
 pub record IsMember (edges : List (List ℕ)) (listed : List ℕ) (x q : ℕ) : Type 0 where
   pub within : q < length listed
   pub to : Reaches (Leads edges) x (slice_index listed q)
@@ -116,8 +139,11 @@ pub record IsMember (edges : List (List ℕ)) (listed : List ℕ) (x q : ℕ) : 
       slice_index listed k ≡ x →
       (k ≤ q) × ReachesAll edges listed (slice_index listed q) k q
 
--- the ranking has come this far: what is listed from place above on has a rank, and so has all from which an edge leads to a ranked item, unless that one waits
-pub record Ranking (edges : List (List ℕ)) (listed : List ℕ) (above : ℕ) (ranks : List (Option ℕ)) (waiting : List ℕ) : Type 0 where
+-- the ranking has come this far: what is listed from place above on has a rank, and so has all from
+-- which an edge leads to a ranked item, unless that one waits
+pub record Ranking
+    (edges : List (List ℕ)) (listed : List ℕ) (above : ℕ) (ranks : List (Option ℕ))
+    (waiting : List ℕ) : Type 0 where
   pub len : length ranks ≡ length edges
   pub low : (x q : ℕ) → rank_of ranks x ≡ Some q → above ≤ q + 1
   pub member : (x q : ℕ) → rank_of ranks x ≡ Some q → IsMember edges listed x q
@@ -138,16 +164,28 @@ abbrev pub left_to_rank : List (Option ℕ) → List ℕ → ℕ
 left_to_rank ranks waiting = sum_by unranked ranks + length waiting
 
 -- those of the users that had no rank have this one, and wait
-pub record RanksUsers (users : List ℕ) (rank : ℕ) (old : List (Option ℕ)) (old_waiting : List ℕ) (new : List (Option ℕ)) (new_waiting : List ℕ) : Type 0 where
+pub record RanksUsers
+    (users : List ℕ) (rank : ℕ) (old : List (Option ℕ)) (old_waiting : List ℕ)
+    (new : List (Option ℕ)) (new_waiting : List ℕ) : Type 0 where
   pub len : length new ≡ length old
   pub kept : (x q : ℕ) → rank_of old x ≡ Some q → rank_of new x ≡ Some q
   pub same : (x : ℕ) → Contains old_waiting x → Contains new_waiting x
   pub news : (x q : ℕ) →
       rank_of new x ≡ Some q →
-      (rank_of old x ≡ Some q) ⊎ ((q ≡ rank) × (rank_of old x ≡ None) × Contains users x × Contains new_waiting x)
-  pub waits : (x : ℕ) → Contains new_waiting x → Contains old_waiting x ⊎ (rank_of new x ≡ Some rank)
+      (rank_of old x ≡ Some q)
+      ⊎ ((q ≡ rank) × (rank_of old x ≡ None) × Contains users x × Contains new_waiting x)
+  pub waits : (x : ℕ) →
+      Contains new_waiting x →
+      Contains old_waiting x ⊎ (rank_of new x ≡ Some rank)
   pub left : left_to_rank new new_waiting ≡ left_to_rank old old_waiting
 
--- over a post-order of the edges that the users are the reverse of, the class of the item at this place has its rank
+-- over a post-order of the edges that the users are the reverse of, the class of the item at this
+-- place has its rank
 abbrev pub RanksClass : List (List ℕ) → List ℕ → ℕ → List (Option ℕ) → List (Option ℕ) → Type 0
-RanksClass users listed place old new = (edges : List (List ℕ)) → AreReversed edges users → IsPostOrder edges listed → rank_of old (slice_index listed place) ≡ None → Ranking edges listed (place + 1) old [] → Ranking edges listed place new []
+RanksClass users listed place old new =
+    (edges : List (List ℕ)) →
+    AreReversed edges users →
+    IsPostOrder edges listed →
+    rank_of old (slice_index listed place) ≡ None →
+    Ranking edges listed (place + 1) old [] →
+    Ranking edges listed place new []

@@ -2,7 +2,8 @@
 use Rattle.std.specs.Prelude.{◌≡◌, ◌≢◌, ℕ, List, [], Contains, length}
 use Rattle.bundle_order_graph.specs.Nodes.{added, beside}
 
--- the modules, and at the same place in the other list those that each of them requests; both in the order of adding
+-- the modules, and at the same place in the other list those that each of them requests; both in
+-- the order of adding
 pub record Modules : Type 0 where
   pub nodes : List ℕ
   pub requests : List (List ℕ)

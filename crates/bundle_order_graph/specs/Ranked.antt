@@ -15,9 +15,11 @@ HasRank ranks list rank m = slice_index ranks (place list m) ≡ rank
 abbrev pub GoesRound : List (List ℕ) → List ℕ → ℕ → Type 0
 GoesRound edges ranks i = (t : ℕ) × Leads edges i t × (slice_index ranks t ≡ slice_index ranks i)
 
--- the modules x and y stand at places of one rank, and an edge leads from that of x to one of this rank
+-- the modules x and y stand at places of one rank, and an edge leads from that of x to one of this
+-- rank
 abbrev pub AreAlike : List (List ℕ) → List ℕ → List ℕ → ℕ → ℕ → Type 0
-AreAlike edges ranks list x y = HasRank ranks list (slice_index ranks (place list y)) x × GoesRound edges ranks (place list x)
+AreAlike edges ranks list x y =
+    HasRank ranks list (slice_index ranks (place list y)) x × GoesRound edges ranks (place list x)
 
 -- place l is the last of the rank of place i
 pub record IsLastLike (ranks : List ℕ) (i l : ℕ) : Type 0 where
@@ -27,7 +29,8 @@ pub record IsLastLike (ranks : List ℕ) (i l : ℕ) : Type 0 where
 
 -- at the rank of each place stands the last place of this rank
 abbrev pub AreLasts : List ℕ → List ℕ → Type 0
-AreLasts ranks lasts = (i : ℕ) → i < length ranks → IsLastLike ranks i (slice_index lasts (slice_index ranks i))
+AreLasts ranks lasts =
+    (i : ℕ) → i < length ranks → IsLastLike ranks i (slice_index lasts (slice_index ranks i))
 
 -- the place is on a cycle, and no later one has its rank
 pub record EndsBlock (edges : List (List ℕ)) (ranks : List ℕ) (i : ℕ) : Type 0 where
@@ -36,4 +39,6 @@ pub record EndsBlock (edges : List (List ℕ)) (ranks : List ℕ) (i : ℕ) : Ty
 
 -- it is on none, or a later one has its rank
 abbrev pub EndsNone : List (List ℕ) → List ℕ → ℕ → Type 0
-EndsNone edges ranks i = (GoesRound edges ranks i → ⊥) ⊎ ((k : ℕ) × (i < k) × (k < length ranks) × (slice_index ranks k ≡ slice_index ranks i))
+EndsNone edges ranks i =
+    (GoesRound edges ranks i → ⊥)
+    ⊎ ((k : ℕ) × (i < k) × (k < length ranks) × (slice_index ranks k ≡ slice_index ranks i))

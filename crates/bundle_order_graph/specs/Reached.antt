@@ -14,7 +14,8 @@ Leads g i b = IsSome (lookup (nat_eq b) (slice_index_or g.edges i []))
 abbrev pub LeadsTo : Statements → ℕ → ℕ → Type 0
 LeadsTo g i j = (b : ℕ) × Leads g i b × (place g.nodes b ≡ j)
 
--- each node has its edges, each end of an edge is a node, each node has a row, and position j is in the row of i exactly if a walk of at least one edge leads from the node at i to the one at j
+-- each node has its edges, each end of an edge is a node, each node has a row, and position j is in
+-- the row of i exactly if a walk of at least one edge leads from the node at i to the one at j
 pub record IsExact (g : Statements) (rows : List (List ℕ)) : Type 0 where
   pub len : length g.edges ≡ length g.nodes
   pub closed : (i b : ℕ) → Leads g i b → Contains g.nodes b

@@ -7,7 +7,8 @@ use Rattle.bundle_order_graph.specs.declared.sort.EdgeDirection.TheVariants.{Out
 use Rattle.bundle_order_graph.specs.declared.sort.Required.{Required}
 use Rattle.bundle_order_graph.specs.declared.sort.Required.TheVariants.{Always, Maybe}
 
--- the nodes in the order of adding, and at the same place in the other list the ends of the edges that leave each, with how much each is required
+-- the nodes in the order of adding, and at the same place in the other list the ends of the edges
+-- that leave each, with how much each is required
 pub record Statements : Type 0 where
   pub nodes : List ℕ
   pub edges : List (List (ℕ × Required))
@@ -38,7 +39,9 @@ strongest None r = r
 -- new is old with both nodes and the edge
 pub record AddsDependency (old new : Statements) (a b : ℕ) (r : Required) : Type 0 where
   pub nodes : new.nodes ≡ added (added old.nodes a) b
-  pub weights : (x y : ℕ) → weight new x y ≡ (if x == a && y == b then Some (strongest (weight old a b) r) else weight old x y)
+  pub weights : (x y : ℕ) →
+      weight new x y
+      ≡ (if x == a && y == b then Some (strongest (weight old a b) r) else weight old x y)
 
 -- n is at the other end of an edge that leaves the node, or comes to it
 abbrev pub IsNeighbor : Statements → ℕ → EdgeDirection → ℕ → Type 0

@@ -30,9 +30,12 @@ impl Model for ModuleGraph {
 
     ghost Value = { Modules };
 
-    ghost view = { λ g. record { nodes = g.nodes.keys; requests = map (λ d. d.keys) g.dependencies.items } };
+    ghost view = { λ g.
+        record { nodes = g.nodes.keys; requests = map (λ d. d.keys) g.dependencies.items } };
 
-    ghost invariant = { λ g. IsWhole (record { nodes = g.nodes.keys; requests = map (λ d. d.keys) g.dependencies.items }) };
+    ghost invariant = { λ g.
+        IsWhole
+        (record { nodes = g.nodes.keys; requests = map (λ d. d.keys) g.dependencies.items }) };
 }
 
 impl ModuleGraph {

@@ -46,9 +46,12 @@ impl Model for StmtDepGraph {
 
     ghost Value = { Statements };
 
-    ghost view = { λ g. record { nodes = g.nodes.keys; edges = map (λ e. e.entries) g.edges.items } };
+    ghost view = { λ g.
+        record { nodes = g.nodes.keys; edges = map (λ e. e.entries) g.edges.items } };
 
-    ghost invariant = { λ g. IsExact (record { nodes = g.nodes.keys; edges = map (λ e. e.entries) g.edges.items }) g.rows };
+    ghost invariant = { λ g.
+        IsExact (record { nodes = g.nodes.keys; edges = map (λ e. e.entries) g.edges.items })
+        g.rows };
 }
 
 impl StmtDepGraph {

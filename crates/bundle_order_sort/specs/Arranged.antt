@@ -15,7 +15,8 @@ AreArranged order old new = AllZip (λ n value. slice_get old n ≡ Some value) 
 
 -- How far values were put into order.
 
--- at each of so many places stands one of so many numbers, and each number at the place that is noted for it
+-- at each of so many places stands one of so many numbers, and each number at the place that is
+-- noted for it
 pub record IsInverse (numbers places : List ℕ) (count : ℕ) : Type 0 where
   pub numbers_len : length numbers ≡ count
   pub places_len : length places ≡ count
@@ -39,4 +40,6 @@ pub record IsShuffled {X : Type 0} (shuffle : Shuffle) (first values : List X) :
 
 -- the numbers of two places changed places
 abbrev pub AreSwapped : List ℕ → List ℕ → ℕ → ℕ → Type 0
-AreSwapped old new a b = (slice_index new a ≡ slice_index old b) × (slice_index new b ≡ slice_index old a) × ((k : ℕ) → k ≢ a → k ≢ b → slice_index new k ≡ slice_index old k)
+AreSwapped old new a b =
+    (slice_index new a ≡ slice_index old b) × (slice_index new b ≡ slice_index old a)
+    × ((k : ℕ) → k ≢ a → k ≢ b → slice_index new k ≡ slice_index old k)

@@ -26,8 +26,10 @@ pub record RefersToList (items : List SharedItem) (s : ℕ) (reference : Referen
   pub at : slice_get items s ≡ Some item
   pub listed : Contains item.references.items reference
 
--- item t is in a list on which item s depends, weakly or not; a number that is no item's, or its own, is no dependency
-pub record NamesShared (items : List SharedItem) (lists : List (List ℕ)) (s t : ℕ) (is_weak : Bool) : Type 0 where
+-- item t is in a list on which item s depends, weakly or not; a number that is no item's, or its
+-- own, is no dependency
+pub record NamesShared
+    (items : List SharedItem) (lists : List (List ℕ)) (s t : ℕ) (is_weak : Bool) : Type 0 where
   pub list : ℕ
   pub refers : RefersToList items s (record { list = list; is_weak = is_weak })
   pub listed : Leads lists list t
@@ -38,28 +40,34 @@ pub record NamesShared (items : List SharedItem) (lists : List (List ℕ)) (s t 
 abbrev pub DependsShared : List SharedItem → List (List ℕ) → ℕ → ℕ → Type 0
 DependsShared items lists s t = (is_weak : Bool) × NamesShared items lists s t is_weak
 
--- item s needs item t: it depends on it; they are not of one module, or one of them is free; and if the dependency is weak, no path of dependencies leads back
+-- item s needs item t: it depends on it; they are not of one module, or one of them is free; and if
+-- the dependency is weak, no path of dependencies leads back
 pub record NeedsShared (items : List SharedItem) (lists : List (List ℕ)) (s t : ℕ) : Type 0 where
   pub is_weak : Bool
   pub named : NamesShared items lists s t is_weak
   pub apart : ShareModule items s t → ⊥
   pub strong : is_weak ≡ true → Path (DependsShared items lists) t s → ⊥
 
--- t is an earlier item of the module of s: they and all between them are of one module, and not free
+-- t is an earlier item of the module of s: they and all between them are of one module, and not
+-- free
 pub record IsEarlierItem (items : List SharedItem) (s t : ℕ) : Type 0 where
   pub before : t < s
   pub module_number : ℕ
   pub together : (k : ℕ) → t ≤ k → k ≤ s → IsItemOf items k module_number
 
--- a step leads from an item to one that it needs, or from an item that is not free to an earlier one of its module
+-- a step leads from an item to one that it needs, or from an item that is not free to an earlier
+-- one of its module
 pub data SharedStep (items : List SharedItem) (lists : List (List ℕ)) (s t : ℕ) : Type 0 where
   to_need : NeedsShared items lists s t → SharedStep items lists s t
   to_earlier : IsEarlierItem items s t → SharedStep items lists s t
 
--- the order that is promised: each item once. An item stands before an earlier one of its module only where a path of steps leads from that one back to it. It stands before one that it needs only where a path of dependencies leads from that one back to it, and a path of steps from it to itself.
--- The items below a bound stand as they are numbered, where from none of them a path of steps leads
--- to itself or to a later one of them
-pub record IsGoodItemOrder (items : List SharedItem) (lists : List (List ℕ)) (order : List ℕ) : Type 0 where
+-- the order that is promised: each item once. An item stands before an earlier one of its module
+-- only where a path of steps leads from that one back to it. It stands before one that it needs
+-- only where a path of dependencies leads from that one back to it, and a path of steps from it to
+-- itself. The items below a bound stand as they are numbered, where from none of them a path of
+-- steps leads to itself or to a later one of them
+pub record IsGoodItemOrder
+    (items : List SharedItem) (lists : List (List ℕ)) (order : List ℕ) : Type 0 where
   pub all : (s : ℕ) → (s < length items) ↔ Contains order s
   pub once : IsDistinct nat_eq order
   pub own : (s t : ℕ) → IsEarlierItem items s t → IsListedBefore order s t →
@@ -78,7 +86,14 @@ pub record IsGoodItemOrder (items : List SharedItem) (lists : List (List ℕ)) (
 
 -- the items of each module stand together
 abbrev pub AreGrouped : List SharedItem → Type 0
-AreGrouped items = (s t m : ℕ) → IsItemOf items s m → IsItemOf items t m → (k : ℕ) → t ≤ k → k ≤ s → IsItemOf items k m
+AreGrouped items =
+    (s t m : ℕ) →
+    IsItemOf items s m →
+    IsItemOf items t m →
+    (k : ℕ) →
+    t ≤ k →
+    k ≤ s →
+    IsItemOf items k m
 
 -- What is computed of items on the way.
 
@@ -94,10 +109,19 @@ refers_within count r = nat_lt r.list count
 abbrev pub number_behind : ℕ → Reference → ℕ
 number_behind before r = before + r.list
 
--- an edge leads from an item to a list on which it depends, where lists are numbered on behind the items, and from a list to each of its items
+-- an edge leads from an item to a list on which it depends, where lists are numbered on behind the
+-- items, and from a list to each of its items
 pub data IsListEdge (items : List SharedItem) (lists : List (List ℕ)) (s t : ℕ) : Type 0 where
-  to_list : (r : Reference) → RefersToList items s r → r.list < length lists → t ≡ length items + r.list → IsListEdge items lists s t
-  to_item : (l : ℕ) → s ≡ length items + l → Leads lists l t → t < length items → IsListEdge items lists s t
+  to_list : (r : Reference) →
+      RefersToList items s r →
+      r.list < length lists →
+      t ≡ length items + r.list →
+      IsListEdge items lists s t
+  to_item : (l : ℕ) →
+      s ≡ length items + l →
+      Leads lists l t →
+      t < length items →
+      IsListEdge items lists s t
 
 -- item s stands right after one of its module
 pub record FollowsItem (items : List SharedItem) (s : ℕ) : Type 0 where
@@ -111,19 +135,26 @@ IsOwn items None t = ⊥
 IsOwn items (Some m) t = IsItemOf items t m
 
 -- for each list a module may be told, of which all of its items are
-pub record AreSoles (items : List SharedItem) (lists : List (List ℕ)) (soles : List (Option ℕ)) : Type 0 where
+pub record AreSoles
+    (items : List SharedItem) (lists : List (List ℕ)) (soles : List (Option ℕ)) : Type 0 where
   pub len : length soles ≡ length lists
-  pub each : (l t : ℕ) → Leads lists l t → (m : ℕ) → slice_index_or soles l None ≡ Some m → IsItemOf items t m
+  pub each : (l t : ℕ) →
+      Leads lists l t →
+      (m : ℕ) →
+      slice_index_or soles l None ≡ Some m →
+      IsItemOf items t m
 
 -- item s needs item t, by the ranks, if it depends on it so
-pub record IsNeeded (items : List SharedItem) (ranks : List ℕ) (s t : ℕ) (is_weak : Bool) : Type 0 where
+pub record IsNeeded
+    (items : List SharedItem) (ranks : List ℕ) (s t : ℕ) (is_weak : Bool) : Type 0 where
   pub within : t < length items
   pub other : t ≢ s
   pub apart : ShareModule items s t → ⊥
   pub strong : is_weak ≡ true → slice_index ranks t < slice_index ranks s
 
 -- item s needs item t, by the ranks
-pub record NeedsByRank (items : List SharedItem) (lists : List (List ℕ)) (ranks : List ℕ) (s t : ℕ) : Type 0 where
+pub record NeedsByRank
+    (items : List SharedItem) (lists : List (List ℕ)) (ranks : List ℕ) (s t : ℕ) : Type 0 where
   pub reference : Reference
   pub refers : RefersToList items s reference
   pub listed : Leads lists reference.list t
@@ -131,4 +162,5 @@ pub record NeedsByRank (items : List SharedItem) (lists : List (List ℕ)) (rank
 
 -- of these numbers those that are needed are added
 abbrev pub AddsNeeds : (ℕ → Type 0) → List ℕ → List ℕ → List ℕ → Type 0
-AddsNeeds Needed list old new = (t : ℕ) → Contains new t ↔ (Contains old t ⊎ (Contains list t × Needed t))
+AddsNeeds Needed list old new =
+    (t : ℕ) → Contains new t ↔ (Contains old t ⊎ (Contains list t × Needed t))

@@ -12,7 +12,9 @@ abbrev pub is_left : List Progress → ℕ → Bool
 is_left progress t = not (progress_of progress t).out
 
 -- item t is not out, and item s needs it, by the ranks, by this reference
-pub record IsNeedLeft (items : List SharedItem) (lists : List (List ℕ)) (ranks : List ℕ) (progress : List Progress) (s : ℕ) (reference : Reference) (t : ℕ) : Type 0 where
+pub record IsNeedLeft
+    (items : List SharedItem) (lists : List (List ℕ)) (ranks : List ℕ) (progress : List Progress)
+    (s : ℕ) (reference : Reference) (t : ℕ) : Type 0 where
   pub left : IsOut progress t → ⊥
   pub listed : Leads lists reference.list t
   pub needed : IsNeeded items ranks s t reference.is_weak

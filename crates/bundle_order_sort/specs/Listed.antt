@@ -2,7 +2,8 @@
 use Rattle.std.specs.Prelude.{◌≡◌, ◌≢◌, ℕ, ◌<◌, Bool, List, length, slice_get, Some, Contains}
 use Rattle.bundle_order_sort.specs.declared.SortItem.{SortItem}
 
--- item s names item t as what it depends on, weakly or not; a number that is no item's, or its own, is no dependency
+-- item s names item t as what it depends on, weakly or not; a number that is no item's, or its own,
+-- is no dependency
 pub record NamesListed (items : List SortItem) (s t : ℕ) (is_weak : Bool) : Type 0 where
   pub item : SortItem
   pub at : slice_get items s ≡ Some item

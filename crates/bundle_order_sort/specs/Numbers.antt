@@ -1,4 +1,5 @@
--- The promise over numbers alone: which item needs which, a rank for each item, and the first item of each item's module.
+-- The promise over numbers alone: which item needs which, a rank for each item, and the first item
+-- of each item's module.
 use Rattle.std.specs.Prelude.{◌≡◌, ℕ, ◌<◌, ◌≤◌, ◌&&◌, ◌||◌, ◌↔◌, Bool, true, false, not, nat_eq, nat_lt, List, [], slice_get, slice_index, slice_index_or, Some, Contains}
 use Rattle.std.specs.List.{IsDistinct}
 use Rattle.bundle_order_graph.specs.Walks.{Path, IsSettled}
@@ -8,7 +9,8 @@ use Rattle.bundle_order_sort.specs.declared.stack.Progress.{Progress}
 abbrev pub NeedsNumber : List (List ℕ) → ℕ → ℕ → Type 0
 NeedsNumber needs s t = Contains (slice_index_or needs s []) t
 
--- t is an earlier item of the module of s; `firsts` has for each item the first of its module, and for a free item that item itself
+-- t is an earlier item of the module of s; `firsts` has for each item the first of its module, and
+-- for a free item that item itself
 abbrev pub IsEarlierNumber : List ℕ → ℕ → ℕ → Type 0
 IsEarlierNumber firsts s t = (slice_index firsts s ≤ t) × (t < s)
 
@@ -25,8 +27,11 @@ pub record IsListedBefore (order : List ℕ) (a b : ℕ) : Type 0 where
   pub first : slice_get order i ≡ Some a
   pub second : slice_get order j ≡ Some b
 
--- the order of so many items that is promised, where N tells what an item needs. Own order: an item stands before an earlier one of its module only where a path of steps leads from that one back to it. Needs: an item stands before one that it needs only where that one does not rank below it, and a path of steps leads from it to itself.
--- Numbers: the items below a bound stand as they are numbered, where they are settled
+-- the order of so many items that is promised, where N tells what an item needs. Own order: an item
+-- stands before an earlier one of its module only where a path of steps leads from that one back to
+-- it. Needs: an item stands before one that it needs only where that one does not rank below it,
+-- and a path of steps leads from it to itself. Numbers: the items below a bound stand as they are
+-- numbered, where they are settled
 pub record IsInOrder (N : ℕ → ℕ → Type 0) (count : ℕ) (ranks firsts order : List ℕ) : Type 0 where
   pub all : (s : ℕ) → (s < count) ↔ Contains order s
   pub once : IsDistinct nat_eq order
@@ -63,7 +68,9 @@ IsOut progress t = (progress_of progress t).out ≡ true
 
 -- whether item s waits for t, which it needs: t is not out, and it ranks below s or s was not begun
 abbrev pub is_awaited : List ℕ → List Progress → ℕ → ℕ → Bool
-is_awaited ranks progress s t = not (progress_of progress t).out && (nat_lt (slice_index ranks t) (slice_index ranks s) || not (progress_of progress s).begun)
+is_awaited ranks progress s t =
+    not (progress_of progress t).out
+    && (nat_lt (slice_index ranks t) (slice_index ranks s) || not (progress_of progress s).begun)
 
 -- what is skipped is out
 abbrev pub AreSkips : List Progress → List ℕ → Type 0

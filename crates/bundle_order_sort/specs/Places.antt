@@ -4,10 +4,12 @@ use Rattle.std.specs.List.{list_any}
 use Rattle.bundle_order_graph.specs.Modules.{Modules, Requests}
 use Rattle.bundle_order_graph.specs.Walks.{Reaches}
 
--- the places of the items whose module passes a test, where these are the modules of items that are counted from i on
+-- the places of the items whose module passes a test, where these are the modules of items that are
+-- counted from i on
 abbrev pub places_where : ℕ → (ℕ → Bool) → List ℕ → List ℕ
 places_where i test [] = []
-places_where i test (owner ∷ owners) = if test owner then i ∷ places_where (i + 1) test owners else places_where (i + 1) test owners
+places_where i test (owner ∷ owners) =
+    if test owner then i ∷ places_where (i + 1) test owners else places_where (i + 1) test owners
 
 -- the places of the items of a module, where these are the modules of all items
 abbrev pub places_of : List ℕ → ℕ → List ℕ

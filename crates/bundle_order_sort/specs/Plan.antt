@@ -22,7 +22,8 @@ pub record IsPlanned (g : Modules) (owners members : List ℕ) (block : Block) :
   pub lone : block.is_cycle ≡ false → (m : ℕ) × (members ≡ m ∷ []) × (Requests g m m → ⊥)
   pub cycle : block.is_cycle ≡ true → (m : ℕ) → members ≡ m ∷ [] → Requests g m m
 
--- the blocks of all modules that the entry reaches, in the order of their last members in its list, where these are the modules of all items; the others are left
+-- the blocks of all modules that the entry reaches, in the order of their last members in its list,
+-- where these are the modules of all items; the others are left
 pub record IsPlanOf (g : Modules) (entry : ℕ) (owners : List ℕ) (plan : Plan) : Type 0 where
   pub list : List ℕ
   pub is_list : IsOrder g entry list

@@ -1,7 +1,8 @@
 -- A stack from which entries are taken that another entry of the same item lies above.
 use Rattle.std.specs.Prelude.{◌≡◌, ℕ, ◌<◌, ◌≤◌, List, length, slice_index}
 
--- what is kept of a stack, in its order: of each item that is still wanted, an entry at or above each of its entries
+-- what is kept of a stack, in its order: of each item that is still wanted, an entry at or above
+-- each of its entries
 pub record IsTopmost (IsWanted : ℕ → Type 0) (stack kept : List ℕ) : Type 0 where
   -- where the entries that are kept were
   pub place : ℕ → ℕ

@@ -185,7 +185,8 @@ pub(crate) fn firsts_of(alloc: Global, items: &[SharedItem]) -> Result<Vec<usize
     ensures len { IfOk result (λ firsts. length firsts.items ≡ length items.now) }
     ensures each { IfOk result (λ firsts.
         (s t : ℕ) →
-        s < length items.now → numbers.IsEarlierNumber firsts.items s t ↔ IsEarlierItem items.now s t) }
+        s < length items.now →
+        numbers.IsEarlierNumber firsts.items s t ↔ IsEarlierItem items.now s t) }
 {
     let mut firsts = Vec::new(alloc);
     let mut first = 0;

@@ -229,7 +229,8 @@ fn add_left(
         ((t : ℕ) →
         Contains needed.new.items t
         ↔ (Contains needed.old.items t
-        ⊎ IsNeedLeft items.now (map (λ v. v.items) lists.old) ranks.now progress.now item reference t)) }
+        ⊎ IsNeedLeft items.now (map (λ v. v.items) lists.old) ranks.now progress.now item
+        reference t)) }
     ensures left { OnOk result
         (KeepsLeft progress.now (map (λ v. v.items) lists.old) (map (λ v. v.items) lists.new)) }
 {

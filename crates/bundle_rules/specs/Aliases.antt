@@ -1,4 +1,5 @@
--- Aliases: `a` is an alias of `b` where the linker wrote `const a = b;`. The end of a chain of them is what is none itself.
+-- Aliases: `a` is an alias of `b` where the linker wrote `const a = b;`. The end of a chain of them
+-- is what is none itself.
 use Rattle.std.specs.Prelude.{◌≡◌, ℕ, IsTrue, List, [], ◌∷◌, Contains}
 use Rattle.bundle_syntax.specs.declared.kind.ExportMetadata.{ExportMetadata}
 use Rattle.bundle_syntax.specs.declared.kind.VarDeclKind.TheVariants.{Const}
@@ -12,10 +13,12 @@ use Rattle.bundle_rules.specs.Parts.{Owned, Parts, in_order, HoldsOfParts}
 -- `const a = b;`, with this noted
 abbrev pub alias_item : ExportMetadata → Ident → Ident → List Item
 alias_item meta a b =
-    h.Open 0 (h.VarDecl Const meta) ∷ h.Open 1 h.VarDeclarator ∷ h.Open 0 h.BindingIdent ∷ h.Ident 0 a.0 a.1 Binding ∷ h.Close
+    h.Open 0 (h.VarDecl Const meta) ∷ h.Open 1 h.VarDeclarator ∷ h.Open 0 h.BindingIdent
+    ∷ h.Ident 0 a.0 a.1 Binding ∷ h.Close
     ∷ h.Ident 1 b.0 b.1 Reference ∷ h.Close ∷ h.Close ∷ []
 
--- the item makes a an alias of b: it is `const a = b;`, with one declarator of two identifiers, and the linker noted it as its own
+-- the item makes a an alias of b: it is `const a = b;`, with one declarator of two identifiers, and
+-- the linker noted it as its own
 pub record MakesAlias (item : List Item) (a b : Ident) : Type 0 where
   pub meta : ExportMetadata
   pub is : item ≡ alias_item meta a b
@@ -45,7 +48,8 @@ HasCycle Alias = (a : Ident) × Chain Alias a a
 abbrev pub IsInlined : (Ident → Ident → Type 0) → List Item → List Item → Type 0
 IsInlined Alias before after = IsRenamedBy (ChainEnd Alias) before after
 
--- `AreInlined Alias old new`: an item that makes an alias goes, and any other stays with its module, inlined
+-- `AreInlined Alias old new`: an item that makes an alias goes, and any other stays with its
+-- module, inlined
 pub data AreInlined (Alias : Ident → Ident → Type 0) : List Owned → List Owned → Type 0 where
   over : AreInlined Alias [] []
   goes : {m : ℕ} {item : List Item} {a b : Ident} {old new : List Owned} →
@@ -58,6 +62,7 @@ pub data AreInlined (Alias : Ident → Ident → Type 0) : List Owned → List O
       AreInlined Alias old new →
       AreInlined Alias ((m, before) ∷ old) ((m, after) ∷ new)
 
--- all aliases are inlined and taken out, in each part. The caller sees to it that no identifier is made an alias twice, and where aliases form a cycle there is no such answer
+-- all aliases are inlined and taken out, in each part. The caller sees to it that no identifier is
+-- made an alias twice, and where aliases form a cycle there is no such answer
 abbrev pub Inlines : Parts → Parts → Type 0
 Inlines before after = HoldsOfParts (AreInlined (IsAlias before)) before after

@@ -1,6 +1,6 @@
--- Where an `await` stands that only an async function or the top of a module may have (ECMA-262, 15.8 and 16.2: the top
--- of a module is async). Functions are meant with their parameters and without their keys; static blocks and values of
--- fields are no functions.
+-- Where an `await` stands that only an async function or the top of a module may have (ECMA-262,
+-- 15.8 and 16.2: the top of a module is async). Functions are meant with their parameters and
+-- without their keys; static blocks and values of fields are no functions.
 use Rattle.std.specs.Prelude.{ℕ, suc, ◌&&◌, ◌||◌, Bool, true, false, not, List, [], ◌∷◌}
 use Rattle.bundle_syntax.specs.Item as h
 use Rattle.bundle_syntax.specs.Item.{Item, Head}
@@ -21,7 +21,9 @@ awaits_here _ = false
 -- the same of the elements from this place on
 abbrev pub awaits_from : List Item → ℕ → List Item → Bool
 awaits_from tree place [] = false
-awaits_from tree place (x ∷ rest) = (awaits_here x && not (is_in_function (path_at tree place))) || awaits_from tree (suc place) rest
+awaits_from tree place (x ∷ rest) =
+    (awaits_here x && not (is_in_function (path_at tree place)))
+    || awaits_from tree (suc place) rest
 
 -- whether an `await` or `for await` stands outside functions
 abbrev pub awaits_outside : List Item → Bool

@@ -1,5 +1,6 @@
--- Which names of a module its top binds, and which nothing binds (ECMA-262, 16.2.1.6 on the environment of a module).
--- The module is read as ES code here: its kind in a bundle does not matter to what it asks for.
+-- Which names of a module its top binds, and which nothing binds (ECMA-262, 16.2.1.6 on the
+-- environment of a module). The module is read as ES code here: its kind in a bundle does not
+-- matter to what it asks for.
 use Rattle.std.specs.Prelude.{ℕ, Bool, true, false, ◌&&◌, List, Option, Some, bytes_eq, map}
 use Rattle.std.specs.List.{list_any}
 use Rattle.bundle_syntax.specs.Item.{Item}

@@ -1,6 +1,6 @@
--- What a bundle is: its items stand for the own statements of the reached modules and for what is injected, each
--- once, with the meanings of the originals; and how they are laid out (ECMA-262, 16.2.1.5.2 Evaluate: a module runs
--- after those that it requests, in depth-first order).
+-- What a bundle is: its items stand for the own statements of the reached modules and for what is
+-- injected, each once, with the meanings of the originals; and how they are laid out (ECMA-262,
+-- 16.2.1.5.2 Evaluate: a module runs after those that it requests, in depth-first order).
 use Rattle.std.specs.Prelude.{◌≡◌, ℕ, zero, suc, ◌+◌, ◌<◌, ◌==◌, ◌↔◌, ◌⊎◌, Bool, true, false, IsTrue, List, [], ◌∷◌, ◌++◌, Option, Some, None, Contains, length, map, filter, flat_map, slice_get, codes, if◌then◌else◌}
 use Rattle.std.specs.List.{AllZip}
 use Rattle.std.specs.Cmp.Lexicographic.{slice_cmp}
@@ -26,7 +26,10 @@ use Rattle.bundle_rules.specs.Awaits.{awaits_outside}
 
 -- What a bundle has.
 
--- why an item stands in a bundle: it is an own statement of an ES module; it imports names of an external, the whole of it, or nothing; it is the helper; the function of a CommonJS module; the statement by which a module loads one; the `import.meta` of a module; the object of a namespace; a star of an external; the exports
+-- why an item stands in a bundle: it is an own statement of an ES module; it imports names of an
+-- external, the whole of it, or nothing; it is the helper; the function of a CommonJS module; the
+-- statement by which a module loads one; the `import.meta` of a module; the object of a namespace;
+-- a star of an external; the exports
 pub data Cause : Type 0 where
   Own : (m k : ℕ) → Cause
   ImportsNames : (s : Text) → Cause
@@ -87,8 +90,15 @@ pub data IsDue (p : Program) (form : Form) : Cause → Type 0 where
       IsDue p form (ImportsNothing s)
   helps : {c : ℕ} → IsReached p c → IsCommonJs p c → IsDue p form Helps
   defines : {c : ℕ} → IsReached p c → IsCommonJs p c → IsDue p form (Defines c)
-  loads : {m c : ℕ} → IsReached p m → (IsCommonJs p m → ⊥) → AsksCommonJs p m c → IsDue p form (Loads m c)
-  holds_meta : {m : ℕ} → IsReached p m → IsTrue (has_import_meta (tree_of p m)) → IsDue p form (HoldsMeta m)
+  loads : {m c : ℕ} →
+      IsReached p m →
+      (IsCommonJs p m → ⊥) →
+      AsksCommonJs p m c →
+      IsDue p form (Loads m c)
+  holds_meta : {m : ℕ} →
+      IsReached p m →
+      IsTrue (has_import_meta (tree_of p m)) →
+      IsDue p form (HoldsMeta m)
   holds_namespace : {d : ℕ} → IsMeant p (Of (Namespace d)) → IsDue p form (HoldsNamespace d)
   stars : {s : Text} → HasExternalStar p p.entry s → IsDue p form (Stars s)
   exports : {x : Text} → form ≡ AsModule → IsLinked p p.entry x → IsDue p form Exports
@@ -114,7 +124,8 @@ pub record AreLinked (p : Program) (d : ℕ) (pairs : List NamedTarget) : Type 0
 
 -- What each item means.
 
--- what a hook may answer for a module: its file as it was handed in, and whether it is the entry; the answer is a list of properties
+-- what a hook may answer for a module: its file as it was handed in, and whether it is the entry;
+-- the answer is a list of properties
 pub record Hooks : Type 1 where
   pub may_answer : FileName → Bool → List Item → Type 0
 
@@ -138,9 +149,12 @@ ItemMeans b item marks = StatementMeans (sense_of b) item.start (elements_of ite
 
 -- an item means what an own statement of m means
 abbrev pub SameMeaning : Program → Labelled → ℕ → TopItem → List Element → Type 0
-SameMeaning p b m item statement = (marks : List Mark) × OwnMeaning p m statement marks × ItemMeans b item marks
+SameMeaning p b m item statement =
+    (marks : List Mark) × OwnMeaning p m statement marks × ItemMeans b item marks
 
--- the item is the function of a CommonJS module: a front, its own statements in their order, a back. The statements stand whole, so that none of them closes the function or stays open; front and back have as many elements as their forms, so that an item is parted in one way
+-- the item is the function of a CommonJS module: a front, its own statements in their order, a
+-- back. The statements stand whole, so that none of them closes the function or stays open; front
+-- and back have as many elements as their forms, so that an item is parted in one way
 pub record IsLoadFunction (p : Program) (b : Labelled) (c : ℕ) (item : TopItem) : Type 0 where
   pub front : List Element
   pub inside : List Item
@@ -151,15 +165,22 @@ pub record IsLoadFunction (p : Program) (b : Labelled) (c : ℕ) (item : TopItem
   pub back_means : Means (sense_of b) [] back load_back
   pub back_length : length back ≡ length load_back
   pub whole : StandsWhole inside
-  pub statements : AllZip (SameMeaning p b c) (placed (item.start + length front) (side_by_side zero inside)) (own_statements (tree_of p c))
+  pub statements :
+      AllZip (SameMeaning p b c) (placed (item.start + length front) (side_by_side zero inside))
+      (own_statements (tree_of p c))
 
 -- a tree in which the properties stand alone, so that nothing outside binds a name in them
 abbrev pub properties_tree : List Item → List Item
-properties_tree properties = h.Open 0 h.Module ∷ h.Open 0 h.ExprStmt ∷ h.Open 0 h.ObjectLit ∷ (properties ++ h.Close ∷ h.Close ∷ h.Close ∷ [])
+properties_tree properties =
+    h.Open 0 h.Module ∷ h.Open 0 h.ExprStmt ∷ h.Open 0 h.ObjectLit
+    ∷ (properties ++ h.Close ∷ h.Close ∷ h.Close ∷ [])
 
--- properties mean these marks; in them only inner and global names are read, and nothing is replaced
+-- properties mean these marks; in them only inner and global names are read, and nothing is
+-- replaced
 abbrev pub PropertiesMean : List Item → List Mark → Type 0
-PropertiesMean properties marks = StatementMeans (bundle_sense (properties_tree properties) BySymbol []) 0 (taken_from 3 properties) marks
+PropertiesMean properties marks =
+    StatementMeans (bundle_sense (properties_tree properties) BySymbol []) 0
+    (taken_from 3 properties) marks
 
 -- the hook may answer these properties for module m
 pub record MayHold (p : Program) (hooks : Hooks) (m : ℕ) (properties : List Item) : Type 0 where
@@ -174,7 +195,8 @@ abbrev pub is_with : Head → Bool
 is_with h.WithStmt = true
 is_with _ = false
 
--- properties that a hook answers have no fault: no name is declared twice in them, they have no `with` and, where the bundle is one function's call, no free `arguments`
+-- properties that a hook answers have no fault: no name is declared twice in them, they have no
+-- `with` and, where the bundle is one function's call, no free `arguments`
 pub record AreFaultless (p : Program) (properties : List Item) : Type 0 where
   pub undoubled : first_doubled Es (properties_tree properties) ≡ None
   pub no_with : has_head is_with properties ≡ false
@@ -182,7 +204,8 @@ pub record AreFaultless (p : Program) (properties : List Item) : Type 0 where
       has_free (properties_tree properties) (codes "arguments") ≡ false
 
 -- an item stands for its cause, in a bundle of this form
-pub data Realises (p : Program) (hooks : Hooks) (form : Form) (b : Labelled) : TopItem → Cause → Type 0 where
+pub data Realises (p : Program) (hooks : Hooks) (form : Form) (b : Labelled) :
+    TopItem → Cause → Type 0 where
   own : {item : TopItem} {m k : ℕ} (statement : List Element) →
       slice_get (own_statements (tree_of p m)) k ≡ Some statement →
       SameMeaning p b m item statement →
@@ -198,7 +221,9 @@ pub data Realises (p : Program) (hooks : Hooks) (form : Form) (b : Labelled) : T
       ItemMeans b item (import_bare s) →
       Realises p hooks form b item (ImportsNothing s)
   helps : {item : TopItem} → ItemMeans b item helper_function → Realises p hooks form b item Helps
-  defines : {item : TopItem} {c : ℕ} → IsLoadFunction p b c item → Realises p hooks form b item (Defines c)
+  defines : {item : TopItem} {c : ℕ} →
+      IsLoadFunction p b c item →
+      Realises p hooks form b item (Defines c)
   loads : {item : TopItem} {m c : ℕ} (whole : Bool) (names : List Text) →
       AreNames (λ x. IsMeant p (Of (CommonJs m c (Named x)))) names →
       (IsTrue whole ↔ IsMeant p (Of (CommonJs m c Whole))) →
@@ -232,7 +257,9 @@ pub data Realises (p : Program) (hooks : Hooks) (form : Form) (b : Labelled) : T
 
 -- `(function () {`: what stands before the body of a bundle that is one function's call
 abbrev pub function_front : Bool → List Item
-function_front is_async = h.Open 0 h.Module ∷ h.Open 0 h.ExprStmt ∷ h.Open 0 h.CallExpr ∷ h.Open 0 h.ParenExpr ∷ h.Open 0 h.FnExpr ∷ h.Open 1 (h.Function false is_async) ∷ h.Open 1 h.BlockStmt ∷ []
+function_front is_async =
+    h.Open 0 h.Module ∷ h.Open 0 h.ExprStmt ∷ h.Open 0 h.CallExpr ∷ h.Open 0 h.ParenExpr
+    ∷ h.Open 0 h.FnExpr ∷ h.Open 1 (h.Function false is_async) ∷ h.Open 1 h.BlockStmt ∷ []
 
 -- `})();`: what stands behind it
 abbrev pub function_back : List Item
@@ -241,14 +268,17 @@ function_back = h.Close ∷ h.Close ∷ h.Close ∷ h.Close ∷ h.Close ∷ h.Cl
 -- `HasBody form tree top body`: the items of the bundle, and the scope of its top bindings
 pub data HasBody : Form → List Item → Scope → List TopItem → Type 0 where
   of_module : {tree : List Item} → HasBody AsModule tree Top (top_items tree)
-  -- one function's call; its statements stand whole, so that none of them closes the function or stays open; it is async exactly where something in the body awaits outside functions
+  -- one function's call; its statements stand whole, so that none of them closes the function or
+  -- stays open; it is async exactly where something in the body awaits outside functions
   of_function : (inside : List Item) →
       StandsWhole inside →
-      HasBody AsCall (function_front (awaits_outside inside) ++ (inside ++ function_back)) (InnerScope FunctionBody 6) (placed 7 (side_by_side zero inside))
+      HasBody AsCall (function_front (awaits_outside inside) ++ (inside ++ function_back))
+      (InnerScope FunctionBody 6) (placed 7 (side_by_side zero inside))
 
 -- The pairing.
 
--- what each binding stands for, the scope of the top bindings, the items, and beside each item its cause
+-- what each binding stands for, the scope of the top bindings, the items, and beside each item its
+-- cause
 pub record Pairing : Type 0 where
   pub labels : Labelling
   pub top : Scope
@@ -260,10 +290,13 @@ abbrev pub labelled : List Item → Reading → Pairing → Labelled
 labelled tree reading pairing = record { tree = tree; reading = reading; labels = pairing.labels }
 
 -- each item of the bundle stands for its cause; what is due stands once, and nothing else does
-pub record IsPaired (p : Program) (hooks : Hooks) (form : Form) (reading : Reading) (tree : List Item) (pairing : Pairing) : Type 0 where
+pub record IsPaired
+    (p : Program) (hooks : Hooks) (form : Form) (reading : Reading) (tree : List Item)
+    (pairing : Pairing) : Type 0 where
   pub labels : IsOneToOne pairing.labels
   pub body : HasBody form tree pairing.top pairing.body
-  pub realised : AllZip (Realises p hooks form (labelled tree reading pairing)) pairing.body pairing.plan
+  pub realised :
+      AllZip (Realises p hooks form (labelled tree reading pairing)) pairing.body pairing.plan
   pub due : (cause : Cause) → Contains pairing.plan cause ↔ IsDue p form cause
   pub once : (i j : ℕ) (cause : Cause) →
       slice_get pairing.plan i ≡ Some cause →
@@ -275,12 +308,16 @@ pub record IsPaired (p : Program) (hooks : Hooks) (form : Form) (reading : Readi
 -- `Chosen Has list chosen`: of the list, those that `Has` holds of, in its order
 pub data Chosen (Has : Cause → Type 0) : List Cause → List Cause → Type 0 where
   nothing : Chosen Has [] []
-  chosen : {x : Cause} {xs ys : List Cause} → Has x → Chosen Has xs ys → Chosen Has (x ∷ xs) (x ∷ ys)
+  chosen : {x : Cause} {xs ys : List Cause} →
+      Has x →
+      Chosen Has xs ys →
+      Chosen Has (x ∷ xs) (x ∷ ys)
   left : {x : Cause} {xs ys : List Cause} → (Has x → ⊥) → Chosen Has xs ys → Chosen Has (x ∷ xs) ys
 
 -- the externals that the modules of a list ask for, in its order and that of the source, each once
 abbrev pub externals : Program → List ℕ → List Text
-externals p list = each_once (filter (λ s. is_external p s) (flat_map (λ m. declared_requests (tree_of p m)) list))
+externals p list =
+    each_once (filter (λ s. is_external p s) (flat_map (λ m. declared_requests (tree_of p m)) list))
 
 -- what may stand for an external: its names, its whole, nothing
 abbrev pub import_causes : Text → List Cause
@@ -291,9 +328,12 @@ abbrev pub counted : {A : Type 0} → ℕ → List A → List ℕ
 counted n [] = []
 counted n (x ∷ rest) = n ∷ counted (suc n) rest
 
--- what may stand for a module, in its own order: the function of a CommonJS module, or else `import.meta`, what it loads in the order of its requests, and its statements
+-- what may stand for a module, in its own order: the function of a CommonJS module, or else
+-- `import.meta`, what it loads in the order of its requests, and its statements
 abbrev pub module_causes : Program → ℕ → List Cause
-module_causes p m = Defines m ∷ HoldsMeta m ∷ (map (Loads m) (requested p m) ++ map (Own m) (counted zero (own_statements (tree_of p m))))
+module_causes p m =
+    Defines m ∷ HoldsMeta m
+    ∷ (map (Loads m) (requested p m) ++ map (Own m) (counted zero (own_statements (tree_of p m))))
 
 -- the module of which an item is; the object of a namespace is free
 abbrev pub owner_of : Cause → Option ℕ
@@ -310,25 +350,33 @@ pub record StandsFor (pairing : Pairing) (cause : Cause) (item : TopItem) : Type
   pub item_there : slice_get pairing.body at ≡ Some item
 
 -- `IsBlockLaidOut p form tree reading pairing members plan`: the items of a block stand so
-pub data IsBlockLaidOut (p : Program) (form : Form) (tree : List Item) (reading : Reading) (pairing : Pairing) : List ℕ → List Cause → Type 0 where
+pub data IsBlockLaidOut
+    (p : Program) (form : Form) (tree : List Item) (reading : Reading) (pairing : Pairing) :
+    List ℕ → List Cause → Type 0 where
   -- a module that shares its block with none and does not request itself, and each module where
   -- the standard's order is asked for: its items in their order, and then its free item
   lone : {m : ℕ} {plan : List Cause} →
       (p.settings.in_standard_order ≡ false → Requests p m m → ⊥) →
       Chosen (IsDue p form) (module_causes p m ++ HoldsNamespace m ∷ []) plan →
       IsBlockLaidOut p form tree reading pairing (m ∷ []) plan
-  -- any other block: its items, numbered by modules and then the free ones, in an order that meets what is promised of one
-  cycle : {members : List ℕ} {plan : List Cause} (numbered : List Cause) (items : List TopItem) (order : List ℕ) →
+  -- any other block: its items, numbered by modules and then the free ones, in an order that meets
+  -- what is promised of one
+  cycle :
+      {members : List ℕ} {plan : List Cause} (numbered : List Cause) (items : List TopItem)
+      (order : List ℕ) →
       p.settings.in_standard_order ≡ false →
       ((m : ℕ) → members ≡ m ∷ [] → Requests p m m) →
-      Chosen (IsDue p form) (flat_map (module_causes p) members ++ map HoldsNamespace members) numbered →
+      Chosen (IsDue p form) (flat_map (module_causes p) members ++ map HoldsNamespace members)
+      numbered →
       AllZip (StandsFor pairing) numbered items →
       IsGoodOrder (group_of reading pairing.top tree items (map owner_of numbered)) order →
       AllZip (λ n cause. slice_get numbered n ≡ Some cause) order plan →
       IsBlockLaidOut p form tree reading pairing members plan
 
 -- the blocks one after the other
-pub data AreBlocksLaidOut (p : Program) (form : Form) (tree : List Item) (reading : Reading) (pairing : Pairing) : List (List ℕ) → List Cause → Type 0 where
+pub data AreBlocksLaidOut
+    (p : Program) (form : Form) (tree : List Item) (reading : Reading) (pairing : Pairing) :
+    List (List ℕ) → List Cause → Type 0 where
   over : AreBlocksLaidOut p form tree reading pairing [] []
   next : {members : List ℕ} {blocks : List (List ℕ)} {rest : List Cause} (plan : List Cause) →
       IsBlockLaidOut p form tree reading pairing members plan →
@@ -338,10 +386,19 @@ pub data AreBlocksLaidOut (p : Program) (form : Form) (tree : List Item) (readin
 -- a block stands after each other block that one of its modules requests
 abbrev pub FollowsRequests : Program → List (List ℕ) → Type 0
 FollowsRequests p blocks =
-    (i j m n : ℕ) (block other : List ℕ) → slice_get blocks i ≡ Some block → slice_get blocks j ≡ Some other → Contains block m → Contains other n → Requests p m n → (j < i) ⊎ (j ≡ i)
+    (i j m n : ℕ) (block other : List ℕ) →
+    slice_get blocks i ≡ Some block →
+    slice_get blocks j ≡ Some other →
+    Contains block m →
+    Contains other n →
+    Requests p m n →
+    (j < i) ⊎ (j ≡ i)
 
--- imports of externals and the helper stand in front, then the blocks in the order of their last members, then stars of externals and the exports
-pub record IsLaidOut (p : Program) (form : Form) (reading : Reading) (tree : List Item) (pairing : Pairing) : Type 0 where
+-- imports of externals and the helper stand in front, then the blocks in the order of their last
+-- members, then stars of externals and the exports
+pub record IsLaidOut
+    (p : Program) (form : Form) (reading : Reading) (tree : List Item)
+    (pairing : Pairing) : Type 0 where
   pub list : List ℕ
   pub is_list : IsList p list
   pub blocks : List (List ℕ)
@@ -351,12 +408,16 @@ pub record IsLaidOut (p : Program) (form : Form) (reading : Reading) (tree : Lis
   pub middle : List Cause
   pub back : List Cause
   pub plan : pairing.plan ≡ front ++ (middle ++ back)
-  pub in_front : Chosen (IsDue p form) (flat_map import_causes (externals p list) ++ Helps ∷ []) front
+  pub in_front :
+      Chosen (IsDue p form) (flat_map import_causes (externals p list) ++ Helps ∷ []) front
   pub in_blocks : AreBlocksLaidOut p form tree reading pairing blocks middle
   pub behind : Chosen (IsDue p form) (map Stars (externals p list) ++ Exports ∷ []) back
 
--- the tree is a bundle of the program in this form, where names are read so: some pairing of its items is right and is laid out
-pub record IsBundle (p : Program) (hooks : Hooks) (form : Form) (reading : Reading) (tree : List Item) : Type 0 where
+-- the tree is a bundle of the program in this form, where names are read so: some pairing of its
+-- items is right and is laid out
+pub record IsBundle
+    (p : Program) (hooks : Hooks) (form : Form) (reading : Reading)
+    (tree : List Item) : Type 0 where
   pub pairing : Pairing
   pub paired : IsPaired p hooks form reading tree pairing
   pub laid_out : IsLaidOut p form reading tree pairing

@@ -1,4 +1,5 @@
--- What a module has to be so that it can be one function's call: statements, and perhaps a list of exports behind them.
+-- What a module has to be so that it can be one function's call: statements, and perhaps a list of
+-- exports behind them.
 use Rattle.std.specs.Prelude.{◌≡◌, ℕ, zero, suc, Bool, true, false, List, [], ◌∷◌, ◌++◌, Option, Some, None, flat_map, is_some}
 use Rattle.bundle_syntax.specs.declared.kind.ExportMetadata.{ExportMetadata}
 use Rattle.bundle_syntax.specs.declared.piece.Role.{Role}
@@ -51,7 +52,8 @@ abbrev pub HasName : Head → List Item → Type 0
 HasName h.AssignPatProp rest = BeginsNamed rest
 HasName _ rest = Unit {0}
 
--- `AreStatements depth items`: whole nodes, of which `depth` are open at first, with no node of a module's
+-- `AreStatements depth items`: whole nodes, of which `depth` are open at first, with no node of a
+-- module's
 pub data AreStatements : ℕ → List Item → Type 0 where
   over : AreStatements zero []
   begun : {depth field : ℕ} {head : Head} {rest : List Item} →
@@ -94,16 +96,20 @@ name_items (Some (text x raw)) = h.Open 1 (h.Str x raw) ∷ h.Close ∷ []
 
 -- `l as x`
 abbrev pub specifier_items : Specifier → List Item
-specifier_items it = h.Open 0 h.ExportNamedSpecifier ∷ h.Ident 0 it.sym it.ctxt Reference ∷ (name_items it.name ++ h.Close ∷ [])
+specifier_items it =
+    h.Open 0 h.ExportNamedSpecifier ∷ h.Ident 0 it.sym it.ctxt Reference
+    ∷ (name_items it.name ++ h.Close ∷ [])
 
 -- `export { l as x, .. };`
 abbrev pub export_items : ExportMetadata → List Specifier → List Item
-export_items meta specifiers = h.Open 0 (h.NamedExport meta) ∷ (flat_map specifier_items specifiers ++ h.Close ∷ [])
+export_items meta specifiers =
+    h.Open 0 (h.NamedExport meta) ∷ (flat_map specifier_items specifiers ++ h.Close ∷ [])
 
 -- no item, or one list of exports of the module's own names
 pub data IsBack : List Item → Type 0 where
   nothing : IsBack []
-  exports : (meta : ExportMetadata) (specifiers : List Specifier) → IsBack (export_items meta specifiers)
+  exports : (meta : ExportMetadata) (specifiers : List Specifier) →
+      IsBack (export_items meta specifiers)
 
 -- What can be called.
 
@@ -111,7 +117,8 @@ pub data IsBack : List Item → Type 0 where
 pub record IsTaken (d : Declared) : Type 0 where
   pub taken : is_some (nearest (from_taker d.by d.scopes)) ≡ true
 
--- the tree is a module of statements and perhaps, behind them, a list of exports; each declaration in it has a scope that takes it
+-- the tree is a module of statements and perhaps, behind them, a list of exports; each declaration
+-- in it has a scope that takes it
 pub record CanBeCalled (reading : Reading) (tree : List Item) : Type 0 where
   pub stmts : List Item
   pub back : List Item
@@ -128,4 +135,7 @@ begins_list _ = false
 
 -- no own statement of a reached module is a list of exports
 abbrev pub StatesNoExports : Program → Type 0
-StatesNoExports p = (m : ℕ) → IsReached p m → Every (λ statement. begins_list statement ≡ false) (own_statements (tree_of p m))
+StatesNoExports p =
+    (m : ℕ) →
+    IsReached p m →
+    Every (λ statement. begins_list statement ≡ false) (own_statements (tree_of p m))

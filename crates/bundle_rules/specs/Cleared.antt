@@ -1,4 +1,5 @@
--- A tree without what a linker marks it with: contexts, which are then 0, and notes. A tree that is handed in is kept so.
+-- A tree without what a linker marks it with: contexts, which are then 0, and notes. A tree that is
+-- handed in is kept so.
 use Rattle.std.specs.Prelude.{List, [], ◌∷◌}
 use Rattle.bundle_syntax.specs.declared.piece.Role.TheVariants.{Word as IsWord}
 use Rattle.bundle_syntax.specs.Item as h
@@ -39,7 +40,8 @@ abbrev pub without_notes : List Item → List Item
 without_notes [] = []
 without_notes (x ∷ rest) = without_note x ∷ without_notes rest
 
--- an element with nothing noted and, where it is a plain word, with context 0: a word denotes nothing
+-- an element with nothing noted and, where it is a plain word, with context 0: a word denotes
+-- nothing
 abbrev pub tidy_item : Item → Item
 tidy_item (h.Open field head) = h.Open field (cleared_head head)
 tidy_item (h.Ident field sym ctxt IsWord) = h.Ident field sym 0 IsWord

@@ -1,4 +1,5 @@
--- How many scopes and bindings a tree has (ECMA-262, 8.2 and 9.1). A resolver takes a context for each of them at most.
+-- How many scopes and bindings a tree has (ECMA-262, 8.2 and 9.1). A resolver takes a context for
+-- each of them at most.
 use Rattle.std.specs.Prelude.{ℕ, ◌+◌, Bool as Truth, true, false, cond, not, ◌&&◌, List, [], ◌∷◌, length, filter}
 use Rattle.std.specs.List.{list_any}
 use Rattle.bundle_syntax.specs.declared.kind.VarDeclKind.TheVariants as v
@@ -50,7 +51,8 @@ scope_count_at outer _ rest = 0
 -- how many scopes begin in the items from a spot on
 abbrev pub scope_count_from : Spot → List Item → ℕ
 scope_count_from spot [] = 0
-scope_count_from spot (item ∷ rest) = scope_count_at spot.path item rest + scope_count_from (past spot item) rest
+scope_count_from spot (item ∷ rest) =
+    scope_count_at spot.path item rest + scope_count_from (past spot item) rest
 
 -- how many scopes a tree has
 abbrev pub scope_count : ModuleKind → List Item → ℕ
@@ -59,7 +61,9 @@ scope_count kind items = length (outermost kind) + scope_count_from start items
 -- how many of these declarations are the first of their binding, where others stand before them
 abbrev pub first_count : List Declared → List Declared → List Declared → ℕ
 first_count all before [] = 0
-first_count all before (d ∷ rest) = cond (list_any (is_declared_in all (home_of all d) d.name) before) 0 1 + first_count all (d ∷ before) rest
+first_count all before (d ∷ rest) =
+    cond (list_any (is_declared_in all (home_of all d) d.name) before) 0 1
+    + first_count all (d ∷ before) rest
 
 -- whether such a node is a function that is no arrow
 abbrev pub is_function_node : Head → Truth
@@ -69,17 +73,23 @@ is_function_node h.GetterProp = true
 is_function_node h.SetterProp = true
 is_function_node _ = false
 
--- one if an item at a place begins a function that is no arrow and has an `arguments` that nothing declares, else zero
+-- one if an item at a place begins a function that is no arrow and has an `arguments` that nothing
+-- declares, else zero
 abbrev pub arguments_count_at : List Declared → ℕ → Item → ℕ
-arguments_count_at all place (h.Open field head) = cond (is_function_node head && has_implicit_arguments all (Inner Parameters place)) 1 0
+arguments_count_at all place (h.Open field head) =
+    cond (is_function_node head && has_implicit_arguments all (Inner Parameters place)) 1 0
 arguments_count_at all place _ = 0
 
 -- how many such functions begin in the items from a place on
 abbrev pub arguments_count_from : List Declared → ℕ → List Item → ℕ
 arguments_count_from all place [] = 0
-arguments_count_from all place (item ∷ rest) = arguments_count_at all place item + arguments_count_from all (place + 1) rest
+arguments_count_from all place (item ∷ rest) =
+    arguments_count_at all place item + arguments_count_from all (place + 1) rest
 
 -- how many bindings a tree has: those that are declared, and each `arguments` that is not
 abbrev pub binding_count : ModuleKind → List Item → ℕ
 binding_count kind items =
-    let all : List Declared = declared BySymbol kind items in first_count all [] all + (length (filter (has_implicit_arguments all) (outermost kind)) + arguments_count_from all 0 items)
+    let all : List Declared = declared BySymbol kind items in
+    first_count all [] all
+    + (length (filter (has_implicit_arguments all) (outermost kind))
+    + arguments_count_from all 0 items)

@@ -1,5 +1,6 @@
--- Declarations: where names are declared, and how (ECMA-262, 8.2 on bound names; 14.3 `let`, `const`, `var` and
--- patterns, 14.7 loops, 14.15 catch, 15 functions and classes, 16.2.2 imports, 16.2.3 default exports).
+-- Declarations: where names are declared, and how (ECMA-262, 8.2 on bound names; 14.3 `let`,
+-- `const`, `var` and patterns, 14.7 loops, 14.15 catch, 15 functions and classes, 16.2.2 imports,
+-- 16.2.3 default exports).
 use Rattle.std.specs.Prelude.{ℕ, Bool as Truth, true, false, cond, ◌&&◌, ◌==◌, List, [], ◌∷◌, ◌++◌, Option, Some, None, codes, bytes_eq, option_and_then}
 use Rattle.std.specs.List.{cons_option}
 use Rattle.bundle_syntax.specs.declared.kind.VarDeclKind.{VarDeclKind}
@@ -30,7 +31,8 @@ pub data Way : Type 0 where
   -- as a parameter of a CommonJS module
   ByWrapper : Way
 
--- whether a name that stands in such a node is declared by what stands around it: the nodes of patterns
+-- whether a name that stands in such a node is declared by what stands around it: the nodes of
+-- patterns
 abbrev pub is_pattern : Head → Truth
 is_pattern h.BindingIdent = true
 is_pattern h.ArrayPat = true
@@ -115,51 +117,71 @@ contexts_agree (Some a) (Some b) = a == b
 abbrev pub names_agree : Name → Name → Truth
 names_agree a b = bytes_eq a.sym b.sym && contexts_agree a.ctxt b.ctxt
 
--- a name where it is declared: its place, the name, how it is declared, and the scopes around the place, innermost first
+-- a name where it is declared: its place, the name, how it is declared, and the scopes around the
+-- place, innermost first
 pub record Declared : Type 0 where
   pub place : ℕ
   pub name : Name
   pub by : Way
   pub scopes : List Scope
 
--- a default export without a name declares `default` where it begins; what follows the item says whether it has a name
+-- a default export without a name declares `default` where it begins; what follows the item says
+-- whether it has a name
 abbrev pub is_nameless_default : Item → List Item → Truth
 is_nameless_default (h.Open field h.ExportDefaultExpr) rest = true
-is_nameless_default (h.Open field h.ExportDefaultDecl) (h.Open inner head ∷ h.Ident first sym ctxt role ∷ rest) = false
+is_nameless_default (h.Open field h.ExportDefaultDecl)
+    (h.Open inner head ∷ h.Ident first sym ctxt role ∷ rest) =
+    false
 is_nameless_default (h.Open field h.ExportDefaultDecl) rest = true
 is_nameless_default _ rest = false
 
 -- the declaration by a name, where a way is known
 abbrev pub declared_by : ℕ → Name → List Scope → Option Way → Option Declared
 declared_by place name scopes None = None
-declared_by place name scopes (Some way) = Some (record { place = place; name = name; by = way; scopes = scopes })
+declared_by place name scopes (Some way) =
+    Some (record { place = place; name = name; by = way; scopes = scopes })
 
 -- what an identifier declares where it stands
 abbrev pub declaration_of : Reading → ModuleKind → Occurrence → Option Declared
-declaration_of reading kind o = cond (is_binding o.role) (declared_by o.place (name_of reading o.sym o.ctxt) (scopes_around kind o.path) (way_of o.path)) None
+declaration_of reading kind o =
+    cond (is_binding o.role)
+    (declared_by o.place (name_of reading o.sym o.ctxt) (scopes_around kind o.path)
+    (way_of o.path)) None
 
 -- the name `default` of an export that begins at a place
 abbrev pub nameless_default : ModuleKind → ℕ → Declared
-nameless_default kind place = record { place = place; name = record { sym = codes "default"; ctxt = None }; by = ByDefault; scopes = outermost kind }
+nameless_default kind place =
+    record {
+      place = place;
+      name = record { sym = codes "default"; ctxt = None };
+      by = ByDefault;
+      scopes = outermost kind;
+    }
 
 -- what an item at a spot declares, with the items that follow it
 abbrev pub declared_at : Reading → ModuleKind → Spot → Item → List Item → Option Declared
 declared_at reading kind spot item rest =
-    cond (is_nameless_default item rest) (Some (nameless_default kind spot.place)) (option_and_then (declaration_of reading kind) (occurrence_of spot item))
+    cond (is_nameless_default item rest) (Some (nameless_default kind spot.place))
+    (option_and_then (declaration_of reading kind) (occurrence_of spot item))
 
 -- what the items from a spot on declare
 abbrev pub declared_from : Reading → ModuleKind → Spot → List Item → List Declared
 declared_from reading kind spot [] = []
-declared_from reading kind spot (item ∷ rest) = cons_option (declared_at reading kind spot item rest) (declared_from reading kind (past spot item) rest)
+declared_from reading kind spot (item ∷ rest) =
+    cons_option (declared_at reading kind spot item rest)
+    (declared_from reading kind (past spot item) rest)
 
 -- a parameter of a CommonJS module stands before all else
 abbrev pub wrapper_parameter : List ℕ → Declared
-wrapper_parameter sym = record { place = 0; name = record { sym = sym; ctxt = None }; by = ByWrapper; scopes = Wrapper ∷ [] }
+wrapper_parameter sym =
+    record
+    { place = 0; name = record { sym = sym; ctxt = None }; by = ByWrapper; scopes = Wrapper ∷ [] }
 
 -- the parameters of the function as which a tree is read
 abbrev pub wrapper_parameters : ModuleKind → List Declared
 wrapper_parameters Es = []
-wrapper_parameters Cjs = wrapper_parameter (codes "module") ∷ wrapper_parameter (codes "exports") ∷ []
+wrapper_parameters Cjs =
+    wrapper_parameter (codes "module") ∷ wrapper_parameter (codes "exports") ∷ []
 
 -- each declaration of a name in a tree, in the order of the source
 abbrev pub declared : Reading → ModuleKind → List Item → List Declared

@@ -1,6 +1,6 @@
--- What runs later than the statement in which it stands: what is inside a function, and what a field of an instance
--- starts with (ECMA-262, 8.6 and 15; 15.7.14 for fields). Keys of methods and fields run with the statement, and so do
--- static fields and static blocks.
+-- What runs later than the statement in which it stands: what is inside a function, and what a
+-- field of an instance starts with (ECMA-262, 8.6 and 15; 15.7.14 for fields). Keys of methods and
+-- fields run with the statement, and so do static fields and static blocks.
 use Rattle.std.specs.Prelude.{ℕ, Bool as Truth, false, ◌||◌, ◌==◌, List}
 use Rattle.std.specs.List.{list_any}
 use Rattle.bundle_syntax.specs.Item as h
@@ -9,7 +9,8 @@ use Rattle.bundle_rules.specs.Places.{Around}
 use Rattle.bundle_rules.specs.Scopes.{Es, scopes_around}
 use Rattle.bundle_rules.specs.Homes.{is_parameters}
 
--- whether a place lies in the parameters or the body of a function, method, accessor, constructor or arrow
+-- whether a place lies in the parameters or the body of a function, method, accessor, constructor
+-- or arrow
 abbrev pub is_in_function : List Around → Truth
 is_in_function path = list_any is_parameters (scopes_around Es path)
 

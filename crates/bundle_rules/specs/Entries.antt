@@ -1,7 +1,8 @@
--- What a module asks of others and what it gives, as it is written: requests, import entries and export entries
--- (ECMA-262, 16.2.1.3 ModuleRequests; 16.2.2.2 ImportEntries; 16.2.3.4 ExportEntries; 16.2.1.6.1 ParseModule, which
--- makes an indirect entry of a local export of an imported name). A name is a text: an identifier `x` and a
--- string "x" are one name. Beside these stand the literal calls of `require`.
+-- What a module asks of others and what it gives, as it is written: requests, import entries and
+-- export entries (ECMA-262, 16.2.1.3 ModuleRequests; 16.2.2.2 ImportEntries; 16.2.3.4
+-- ExportEntries; 16.2.1.6.1 ParseModule, which makes an indirect entry of a local export of an
+-- imported name). A name is a text: an identifier `x` and a string "x" are one name. Beside these
+-- stand the literal calls of `require`.
 use Rattle.std.specs.Prelude.{ℕ, zero, suc, ◌==◌, ◌&&◌, Bool, true, false, not, List, [], ◌∷◌, ◌++◌, Option, Some, None, filter, map, flat_map, find, bytes_eq, codes, unwrap_or, if◌then◌else◌}
 use Rattle.std.specs.List.{list_any}
 use Rattle.bundle_syntax.specs.declared.kind.MetaPropKind.{MetaPropKind}
@@ -25,7 +26,8 @@ pub record ImportEntry : Type 0 where
   pub specifier : Text
   pub taken : Taken
 
--- an export: of a name of the module's own, of what another module gives, or of all that another module gives
+-- an export: of a name of the module's own, of what another module gives, or of all that another
+-- module gives
 pub data ExportEntry : Type 0 where
   Local : (name of : Text) → ExportEntry
   Indirect : (name specifier : Text) → Taken → ExportEntry
@@ -49,7 +51,12 @@ taken_by _ specifier = Named (renamed_text specifier)
 
 -- what a specifier of this source imports
 abbrev pub import_entry : Text → List Item → List ImportEntry
-import_entry source (h.Open field head ∷ rest) = record { local = text_in 0 (h.Open field head ∷ rest); specifier = source; taken = taken_by head (h.Open field head ∷ rest) } ∷ []
+import_entry source (h.Open field head ∷ rest) =
+    record {
+      local = text_in 0 (h.Open field head ∷ rest);
+      specifier = source;
+      taken = taken_by head (h.Open field head ∷ rest);
+    } ∷ []
 import_entry source _ = []
 
 -- what a top item with this head imports
@@ -92,9 +99,11 @@ is_binding _ = false
 -- the names that patterns bind; `depth` counts the nodes around that are no part of a pattern
 abbrev pub names_bound : ℕ → List Item → List Text
 names_bound depth [] = []
-names_bound zero (h.Open field head ∷ rest) = elim (is_in_pattern head) [ true ↦ names_bound zero rest | false ↦ names_bound 1 rest ]
+names_bound zero (h.Open field head ∷ rest) =
+    elim (is_in_pattern head) [ true ↦ names_bound zero rest | false ↦ names_bound 1 rest ]
 names_bound (suc depth) (h.Open field head ∷ rest) = names_bound (suc (suc depth)) rest
-names_bound zero (h.Ident field sym ctxt role ∷ rest) = elim (is_binding role) [ true ↦ sym ∷ names_bound zero rest | false ↦ names_bound zero rest ]
+names_bound zero (h.Ident field sym ctxt role ∷ rest) =
+    elim (is_binding role) [ true ↦ sym ∷ names_bound zero rest | false ↦ names_bound zero rest ]
 names_bound (suc depth) (h.Ident field sym ctxt role ∷ rest) = names_bound (suc depth) rest
 names_bound depth (h.Hole field ∷ rest) = names_bound depth rest
 names_bound zero (h.Close ∷ rest) = names_bound zero rest
@@ -115,7 +124,8 @@ names_declared _ = []
 -- an export of a name of the module: what was imported by name is given on, all else is local
 abbrev pub given_on : Text → Text → Option ImportEntry → ExportEntry
 given_on name of None = Local name of
-given_on name of (Some entry) = elim (entry.taken) [ Named x ↦ Indirect name entry.specifier (Named x) | Whole ↦ Local name of ]
+given_on name of (Some entry) =
+    elim (entry.taken) [ Named x ↦ Indirect name entry.specifier (Named x) | Whole ↦ Local name of ]
 
 -- an export of the name `of` of the module, where these are its imports
 abbrev pub export_of : List ImportEntry → Text → Text → ExportEntry
@@ -155,15 +165,18 @@ default_declared declaration = unwrap_or (name_of (child 0 declaration)) default
 -- the entries of a top item with this head
 abbrev pub exports_by : List ImportEntry → Head → List Item → List ExportEntry
 exports_by imports h.ExportDecl item = map (λ x. Local x x) (names_declared (child 0 item))
-exports_by imports (h.NamedExport meta) item = entries_of_list imports (string_of (child 1 item)) item
-exports_by imports h.ExportDefaultDecl item = Local default_name (default_declared (child 0 item)) ∷ []
+exports_by imports (h.NamedExport meta) item =
+    entries_of_list imports (string_of (child 1 item)) item
+exports_by imports h.ExportDefaultDecl item =
+    Local default_name (default_declared (child 0 item)) ∷ []
 exports_by imports h.ExportDefaultExpr item = Local default_name default_name ∷ []
 exports_by imports (h.ExportAll meta) item = Star (text_in 0 item) ∷ []
 exports_by imports _ item = []
 
 -- the entries of a top item, where these are the imports of the module
 abbrev pub exports_of_item : List ImportEntry → List Item → List ExportEntry
-exports_of_item imports (h.Open field head ∷ rest) = exports_by imports head (h.Open field head ∷ rest)
+exports_of_item imports (h.Open field head ∷ rest) =
+    exports_by imports head (h.Open field head ∷ rest)
 exports_of_item imports _ = []
 
 -- the exports of a module, in the order of the source
@@ -225,7 +238,8 @@ only_argument (x ∷ rest) = if ends 3 rest then string_of (x ∷ rest) else Non
 
 -- the text, where the list begins with `require('text')` and nothing else in the call
 abbrev pub required_at : List Item → Option Text
-required_at items = only_argument (after is_plain_argument (after is_require_name (after is_call items)))
+required_at items =
+    only_argument (after is_plain_argument (after is_require_name (after is_call items)))
 
 -- a literal call of `require`: the place at which it begins, and its text
 pub record RequireCall : Type 0 where
@@ -235,12 +249,15 @@ pub record RequireCall : Type 0 where
 -- the call at this place, where it has a text and its name is free
 abbrev pub call_at : (ℕ → Bool) → ℕ → Option Text → List RequireCall
 call_at is_free place None = []
-call_at is_free place (Some text) = if is_free (suc place) then record { place = place; specifier = text } ∷ [] else []
+call_at is_free place (Some text) =
+    if is_free (suc place) then record { place = place; specifier = text } ∷ [] else []
 
--- the literal calls of a `require` that nothing binds, from this place on; `is_free` says of a place that its name is bound nowhere in the module
+-- the literal calls of a `require` that nothing binds, from this place on; `is_free` says of a
+-- place that its name is bound nowhere in the module
 abbrev pub require_calls_from : (ℕ → Bool) → ℕ → List Item → List RequireCall
 require_calls_from is_free place [] = []
-require_calls_from is_free place (x ∷ rest) = call_at is_free place (required_at (x ∷ rest)) ++ require_calls_from is_free (suc place) rest
+require_calls_from is_free place (x ∷ rest) =
+    call_at is_free place (required_at (x ∷ rest)) ++ require_calls_from is_free (suc place) rest
 
 -- the literal calls of a `require` that nothing binds, in tree order
 abbrev pub require_calls : (ℕ → Bool) → List Item → List RequireCall
@@ -251,7 +268,8 @@ require_calls is_free tree = require_calls_from is_free 0 tree
 -- what a top item with this head asks for
 abbrev pub requests_by : Head → List Item → List Text
 requests_by (h.ImportDecl meta) item = text_in 1 item ∷ []
-requests_by (h.NamedExport meta) item = elim (string_of (child 1 item)) [ None ↦ [] | Some source ↦ source ∷ [] ]
+requests_by (h.NamedExport meta) item =
+    elim (string_of (child 1 item)) [ None ↦ [] | Some source ↦ source ∷ [] ]
 requests_by (h.ExportAll meta) item = text_in 0 item ∷ []
 requests_by _ item = []
 
@@ -264,7 +282,10 @@ requests_of_item _ = []
 abbrev pub declared_requests : List Item → List Text
 declared_requests tree = flat_map (λ top. requests_of_item top.items) (top_items tree)
 
--- how a bundler is set up: whether literal calls of `require` are linked, which texts are external, whether the bundle is one function's call, whether its names are renamed, so that their symbols alone tell them apart, how many modules may be kept, and whether modules of a cycle too stand in the order of the list
+-- how a bundler is set up: whether literal calls of `require` are linked, which texts are external,
+-- whether the bundle is one function's call, whether its names are renamed, so that their symbols
+-- alone tell them apart, how many modules may be kept, and whether modules of a cycle too stand in
+-- the order of the list
 pub record Settings : Type 0 where
   pub require : Bool
   pub external : List Text
@@ -277,16 +298,19 @@ pub record Settings : Type 0 where
 abbrev pub linked_calls : Settings → (ℕ → Bool) → List Item → List RequireCall
 linked_calls settings is_free tree =
     if settings.require
-    then filter (λ call. not (has_text call.specifier settings.external)) (require_calls is_free tree)
+    then filter (λ call. not (has_text call.specifier settings.external))
+    (require_calls is_free tree)
     else []
 
--- the requests of a module: each text that is not external once, first those of imports and exports and then those of literal calls of `require`
+-- the requests of a module: each text that is not external once, first those of imports and exports
+-- and then those of literal calls of `require`
 abbrev pub requests_of : Settings → (ℕ → Bool) → List Item → List Text
 requests_of settings is_free tree =
     each_once (filter (λ s. not (has_text s settings.external)) (declared_requests tree)
     ++ map (λ call. call.specifier) (linked_calls settings is_free tree))
 
--- What makes a module a script or not (ECMA-262, 16.2: a module has import and export declarations, and 13.3.12 `import.meta`).
+-- What makes a module a script or not (ECMA-262, 16.2: a module has import and export declarations,
+-- and 13.3.12 `import.meta`).
 
 -- whether such a node is an import or export declaration
 abbrev pub is_module_declaration : Head → Bool
@@ -314,4 +338,6 @@ has_import_meta tree = has_head is_import_meta tree
 
 -- whether the module has neither an import or export declaration nor `import.meta`
 abbrev pub is_script : List Item → Bool
-is_script tree = not (list_any (λ top. begins_with is_module_declaration top.items) (top_items tree)) && not (has_import_meta tree)
+is_script tree =
+    not (list_any (λ top. begins_with is_module_declaration top.items) (top_items tree))
+    && not (has_import_meta tree)

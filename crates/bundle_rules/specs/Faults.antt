@@ -1,5 +1,6 @@
--- What is wrong with a list of entries, one clause for each refusal, and in which order it is judged (ECMA-262, 16.2.1.1
--- early errors of modules; 16.2.1.6.4 InitializeEnvironment, which refuses imports that ResolveExport does not resolve).
+-- What is wrong with a list of entries, one clause for each refusal, and in which order it is
+-- judged (ECMA-262, 16.2.1.1 early errors of modules; 16.2.1.6.4 InitializeEnvironment, which
+-- refuses imports that ResolveExport does not resolve).
 use Rattle.std.specs.Prelude.{◌≡◌, ◌≢◌, ℕ, ◌+◌, ◌*◌, ◌<◌, ◌≤◌, ◌==◌, ◌⊎◌, Bool, true, false, IsTrue, List, [], ◌∷◌, ◌++◌, Option, Some, None, Contains, length, flat_map, slice_get, string_bytes, codes, filter}
 use Rattle.bundle_syntax.specs.Item as h
 use Rattle.bundle_syntax.specs.Item.{Item, Head}
@@ -48,24 +49,33 @@ pub data Fault : Type 0 where
 -- the fault that an error tells of; want of memory is none
 abbrev pub fault_of : Error → Option Fault
 fault_of (e.Load file) = Some (LoadFails (file_name_of file))
-fault_of (e.Resolve file specifier) = Some (ResolveFails (file_name_of file) (string_bytes specifier))
+fault_of (e.Resolve file specifier) =
+    Some (ResolveFails (file_name_of file) (string_bytes specifier))
 fault_of (e.Hook file) = Some (HookFails (file_name_of file))
 fault_of (e.TooManyModules file) = Some (TooManyModules (file_name_of file))
 fault_of (e.ContextsUsedUp file) = Some (ContextsUsedUp (file_name_of file))
-fault_of (e.DoubledDeclaration file name) = Some (DoubledDeclaration (file_name_of file) (string_bytes name))
+fault_of (e.DoubledDeclaration file name) =
+    Some (DoubledDeclaration (file_name_of file) (string_bytes name))
 fault_of (e.DoubledExport file name) = Some (DoubledExport (file_name_of file) (string_bytes name))
-fault_of (e.UndeclaredExport file name) = Some (UndeclaredExport (file_name_of file) (string_bytes name))
+fault_of (e.UndeclaredExport file name) =
+    Some (UndeclaredExport (file_name_of file) (string_bytes name))
 fault_of (e.MissingExport file name) = Some (MissingExport (file_name_of file) (string_bytes name))
-fault_of (e.AmbiguousExport file name) = Some (AmbiguousExport (file_name_of file) (string_bytes name))
-fault_of (e.ExternalStarOnly file name) = Some (ExternalStarOnly (file_name_of file) (string_bytes name))
-fault_of (e.StarOfCommonJs file specifier) = Some (StarOfCommonJs (file_name_of file) (string_bytes specifier))
+fault_of (e.AmbiguousExport file name) =
+    Some (AmbiguousExport (file_name_of file) (string_bytes name))
+fault_of (e.ExternalStarOnly file name) =
+    Some (ExternalStarOnly (file_name_of file) (string_bytes name))
+fault_of (e.StarOfCommonJs file specifier) =
+    Some (StarOfCommonJs (file_name_of file) (string_bytes specifier))
 fault_of (e.NamespaceOverExternalStar file) = Some (NamespaceOverExternalStar (file_name_of file))
 fault_of (e.With file) = Some (WithStatement (file_name_of file))
-fault_of (e.RequiredEsModule file specifier) = Some (RequiredEsModule (file_name_of file) (string_bytes specifier))
-fault_of (e.RequiredEntry file specifier) = Some (RequiredEntry (file_name_of file) (string_bytes specifier))
+fault_of (e.RequiredEsModule file specifier) =
+    Some (RequiredEsModule (file_name_of file) (string_bytes specifier))
+fault_of (e.RequiredEntry file specifier) =
+    Some (RequiredEntry (file_name_of file) (string_bytes specifier))
 fault_of (e.AwaitInCommonJs file) = Some (AwaitInCommonJs (file_name_of file))
 fault_of (e.DoubledEntry file name) = Some (DoubledEntry (file_name_of file) (string_bytes name))
-fault_of (e.ExternalUnderIife file specifier) = Some (ExternalUnderIife (file_name_of file) (string_bytes specifier))
+fault_of (e.ExternalUnderIife file specifier) =
+    Some (ExternalUnderIife (file_name_of file) (string_bytes specifier))
 fault_of (e.ArgumentsUnderIife file) = Some (ArgumentsUnderIife (file_name_of file))
 fault_of e.OutOfMemory = None
 
@@ -77,7 +87,8 @@ pub record Parties : Type 1 where
   pub may_fail_to_resolve : Asked → Type 0
   pub may_fail_to_answer : Name → Bool → Type 0
 
--- Faults of a tree by itself. Each has a stage, in which it is judged, and a place; in a stage the first place counts.
+-- Faults of a tree by itself. Each has a stage, in which it is judged, and a place; in a stage the
+-- first place counts.
 
 -- the entry's name
 abbrev pub entry_name : ExportEntry → Option Text
@@ -107,12 +118,15 @@ listed_text specifier string (Some x) = record { text = x; is_string = string } 
 
 -- the name that a specifier lists
 abbrev pub listed_name : List Item → List ListedName
-listed_name specifier = listed_text specifier (begins_with is_string_head (child 0 specifier)) (name_of (child 0 specifier))
+listed_name specifier =
+    listed_text specifier (begins_with is_string_head (child 0 specifier))
+    (name_of (child 0 specifier))
 
 -- the names that a list lists; one with `from` lists none of the module
 abbrev pub names_in_list : Option Text → List Item → List ListedName
 names_in_list (Some source) list = []
-names_in_list None list = flat_map listed_name (filter (begins_with is_named_specifier) (in_field 0 list))
+names_in_list None list =
+    flat_map listed_name (filter (begins_with is_named_specifier) (in_field 0 list))
 
 -- the names that a top item with this head lists
 abbrev pub names_listed_by : Head → List Item → List ListedName
@@ -158,7 +172,9 @@ pub record IsFirstTreeFault (file : Name) (tree : List Item) (fault : Fault) : T
   pub stage : ℕ
   pub place : ℕ
   pub there : TreeFault file tree stage place fault
-  pub first : (other its : ℕ) (f : Fault) → TreeFault file tree other its f → NotAfter stage place other its
+  pub first : (other its : ℕ) (f : Fault) →
+      TreeFault file tree other its f →
+      NotAfter stage place other its
 
 -- the tree has no fault by itself
 abbrev pub IsFaultless : Name → List Item → Type 0
@@ -173,20 +189,26 @@ pub record AskedName : Type 0 where
 
 -- the name that an import asks for, unless it takes the whole
 abbrev pub asked_by_import : ImportEntry → List AskedName
-asked_by_import entry = elim (entry.taken) [ Named x ↦ record { specifier = entry.specifier; name = x } ∷ [] | Whole ↦ [] ]
+asked_by_import entry =
+    elim (entry.taken)
+    [ Named x ↦ record { specifier = entry.specifier; name = x } ∷ [] | Whole ↦ [] ]
 
 -- the name that an indirect export asks for, unless it takes the whole
 abbrev pub asked_by_export : ExportEntry → List AskedName
-asked_by_export (Indirect name specifier (Named x)) = record { specifier = specifier; name = x } ∷ []
+asked_by_export (Indirect name specifier (Named x)) =
+    record { specifier = specifier; name = x } ∷ []
 asked_by_export (Indirect name specifier Whole) = []
 asked_by_export (Local name of) = []
 asked_by_export (Star specifier) = []
 
 -- the names that a top item asks for
 abbrev pub asked_by_item : List ImportEntry → List Item → List AskedName
-asked_by_item imports item = flat_map asked_by_import (imports_of_item item) ++ flat_map asked_by_export (exports_of_item imports item)
+asked_by_item imports item =
+    flat_map asked_by_import (imports_of_item item)
+    ++ flat_map asked_by_export (exports_of_item imports item)
 
--- the names that a module asks of others by imports and indirect exports, in the order of the source
+-- the names that a module asks of others by imports and indirect exports, in the order of the
+-- source
 abbrev pub asked_names : List Item → List AskedName
 asked_names tree = flat_map (λ top. asked_by_item (imports_of tree) top.items) (top_items tree)
 
@@ -194,7 +216,8 @@ asked_names tree = flat_map (λ top. asked_by_item (imports_of tree) top.items) 
 abbrev pub StarsExternal : Program → ℕ → Type 0
 StarsExternal p d = (s : Text) × HasExternalStar p d s
 
--- what is wrong with a name that is asked of an ES module d: two targets; none, where a star of an external may hold it; none else
+-- what is wrong with a name that is asked of an ES module d: two targets; none, where a star of an
+-- external may hold it; none else
 pub data NameFault (p : Program) (d : ℕ) (x : Text) (file : Name) : Fault → Type 0 where
   ambiguous : IsAmbiguous p d x → NameFault p d x file (AmbiguousExport file x)
   external_only : IsMissing p d x →
@@ -260,7 +283,8 @@ pub record Stands (p : Program) (list : List ℕ) (i m : ℕ) (file : Name) : Ty
   pub listed : slice_get list i ≡ Some m
   pub its_file : file_of p m ≡ Some file
 
--- one fault of a program is judged before another or is the same: by stages, then by the modules' places in the list, then by places in the module
+-- one fault of a program is judged before another or is the same: by stages, then by the modules'
+-- places in the list, then by places in the module
 pub data JudgedNotAfter (stage i place : ℕ) : ℕ → ℕ → ℕ → Type 0 where
   earlier_stage : {other j its : ℕ} → stage < other → JudgedNotAfter stage i place other j its
   earlier_module : {j its : ℕ} → i < j → JudgedNotAfter stage i place stage j its
@@ -284,9 +308,14 @@ pub record IsFirstProgramFault (p : Program) (fault : Fault) : Type 0 where
 
 -- the program has no fault, whatever its files are called
 abbrev pub IsFaultlessProgram : Program → Type 0
-IsFaultlessProgram p = (m stage place : ℕ) (file : Name) (f : Fault) → IsReached p m → ProgramFault p file m stage place f → ⊥
+IsFaultlessProgram p =
+    (m stage place : ℕ) (file : Name) (f : Fault) →
+    IsReached p m →
+    ProgramFault p file m stage place f →
+    ⊥
 
--- Faults of a hook's answer: it fails, or what it answers has a doubled declaration, a `with`, or a free `arguments` under one function's call.
+-- Faults of a hook's answer: it fails, or what it answers has a doubled declaration, a `with`, or a
+-- free `arguments` under one function's call.
 
 -- what is wrong with properties that a hook answers
 pub data PropertiesFault (p : Program) (file : Name) (properties : List Item) : Fault → Type 0 where
@@ -321,13 +350,15 @@ pub record MayAnswer (p : Program) (parties : Parties) (m : ℕ) : Type 0 where
 
 -- Where the number of contexts ends.
 
--- how many scopes and bindings an injected item may have; the statements of modules are counted with their trees
+-- how many scopes and bindings an injected item may have; the statements of modules are counted
+-- with their trees
 pub data InjectedCount (p : Program) : Cause → ℕ → Type 0 where
   names : {s : Text} (names : List Text) →
       AreNames (MeansName p s) names →
       InjectedCount p (ImportsNames s) (length names)
   whole : {s : Text} → InjectedCount p (ImportsWhole s) 1
-  -- the helper with its parameter, its variable and two `arguments`; two functions' parameters and bodies, and a block
+  -- the helper with its parameter, its variable and two `arguments`; two functions' parameters and
+  -- bodies, and a block
   helper : InjectedCount p Helps 10
   -- the name of the function; its scopes and parameters are counted with the tree
   load_function : {c : ℕ} → InjectedCount p (Defines c) 1
@@ -361,9 +392,12 @@ tree_count kind tree = scope_count kind tree + binding_count kind tree
 
 -- those of properties that a hook answers; they have no top of their own
 abbrev pub properties_count : List Item → ℕ
-properties_count properties = scope_count_from start (properties_tree properties) + binding_count Es (properties_tree properties)
+properties_count properties =
+    scope_count_from start (properties_tree properties)
+    + binding_count Es (properties_tree properties)
 
--- the scopes and bindings of the modules of a list, and of answers of the hook for those with `import.meta`, added; where the hook was not asked the tree counts alone
+-- the scopes and bindings of the modules of a list, and of answers of the hook for those with
+-- `import.meta`, added; where the hook was not asked the tree counts alone
 pub data TreesCountTo (p : Program) (hooks : Hooks) : List ℕ → ℕ → Type 0 where
   nothing : TreesCountTo p hooks [] 0
   plain : {m more : ℕ} {rest : List ℕ} {kind : ModuleKind} →
@@ -375,7 +409,8 @@ pub data TreesCountTo (p : Program) (hooks : Hooks) : List ℕ → ℕ → Type 
       has_import_meta (tree_of p m) ≡ true →
       MayHold p hooks m properties →
       TreesCountTo p hooks rest more →
-      TreesCountTo p hooks (m ∷ rest) (tree_count Es (tree_of p m) + (properties_count properties + more))
+      TreesCountTo p hooks (m ∷ rest)
+      (tree_count Es (tree_of p m) + (properties_count properties + more))
   unanswered : {m more : ℕ} {rest : List ℕ} →
       has_import_meta (tree_of p m) ≡ true →
       TreesCountTo p hooks rest more →
@@ -397,7 +432,8 @@ pub record NeedsTooManyContexts (p : Program) (hooks : Hooks) (next : ℕ) : Typ
   pub injected : CountsTo p causes of_causes
   pub above : 4294967295 < next + of_trees + of_causes
 
--- a module gets contexts of its own: where a scope begins in its tree or in what the hook answers for it, or where it is CommonJS, for the names that its function gives it
+-- a module gets contexts of its own: where a scope begins in its tree or in what the hook answers
+-- for it, or where it is CommonJS, for the names that its function gives it
 pub data GetsContexts (p : Program) (hooks : Hooks) (m : ℕ) : Type 0 where
   by_tree : 0 < scope_count_from start (tree_of p m) → GetsContexts p hooks m
   by_function : IsCommonJs p m → GetsContexts p hooks m
@@ -418,7 +454,8 @@ has_own_name (HoldsMeta m) = true
 has_own_name (HoldsNamespace d) = true
 has_own_name _ = false
 
--- the module whose file is named where contexts do not suffice: one that gets some; or else the entry, where the linker has a name of its own to give
+-- the module whose file is named where contexts do not suffice: one that gets some; or else the
+-- entry, where the linker has a name of its own to give
 pub data IsNamedForContexts (p : Program) (hooks : Hooks) : ℕ → Type 0 where
   gets : {m : ℕ} → IsReached p m → GetsContexts p hooks m → IsNamedForContexts p hooks m
   own : (cause : Cause) →

@@ -1,5 +1,6 @@
--- What is owed by the calls that build what a linker adds: each item has its form, with the identifiers that are handed
--- in; and what a bundle is that is one function's call (ECMA-262, 13.2.5, 15.8, 16.2.3).
+-- What is owed by the calls that build what a linker adds: each item has its form, with the
+-- identifiers that are handed in; and what a bundle is that is one function's call (ECMA-262,
+-- 13.2.5, 15.8, 16.2.3).
 use Rattle.std.specs.Prelude.{◌≡◌, zero, suc, Bool, true, false, IsTrue, List, [], ◌∷◌, ◌++◌, None, flat_map, map, bytes_eq, unwrap_or, codes, if◌then◌else◌}
 use Rattle.std.specs.Map.{lookup}
 use Rattle.std.specs.Cmp.Lexicographic.{slice_cmp}
@@ -59,22 +60,29 @@ pub record IsHelperItem (helper fn its_module : Ident) (item : List Item) : Type
 
 -- the identifier that stands for a name of a namespace; the object's own for all else
 abbrev pub property_ident : Ident → List (Text × Ident) → Meant → Ident
-property_ident object pairs (Known (Of (Declared m x))) = unwrap_or (lookup (bytes_eq x) pairs) object
+property_ident object pairs (Known (Of (Declared m x))) =
+    unwrap_or (lookup (bytes_eq x) pairs) object
 property_ident object pairs _ = object
 
 -- the object of a namespace, with these identifiers for its names; the linker notes it as its own
-pub record IsNamespaceItem (object : Ident) (pairs : List (Text × Ident)) (item : List Item) : Type 0 where
-  pub built : IsBuilt (namespace_object 0 (map (λ pair. (pair.0, Declared 0 pair.0)) pairs)) (property_ident object pairs) item
+pub record IsNamespaceItem
+    (object : Ident) (pairs : List (Text × Ident)) (item : List Item) : Type 0 where
+  pub built :
+      IsBuilt (namespace_object 0 (map (λ pair. (pair.0, Declared 0 pair.0)) pairs))
+      (property_ident object pairs) item
   pub noted : IsTrue (is_injected item)
 
 -- the identifiers in front of the statements of a load function
 abbrev pub front_ident : Ident → Ident → Ident → Ident → Meant → Ident
 front_ident load helper its_module its_exports (Known Helper) = helper
-front_ident load helper its_module its_exports (Known (Parameter c x)) = if bytes_eq x (codes "module") then its_module else its_exports
+front_ident load helper its_module its_exports (Known (Parameter c x)) =
+    if bytes_eq x (codes "module") then its_module else its_exports
 front_ident load helper its_module its_exports _ = load
 
--- the load function of these statements, with nothing noted beside them: it is an item of its module, and not free
-pub record IsLoadItem (load helper its_module its_exports : Ident) (stmts item : List Item) : Type 0 where
+-- the load function of these statements, with nothing noted beside them: it is an item of its
+-- module, and not free
+pub record IsLoadItem
+    (load helper its_module its_exports : Ident) (stmts item : List Item) : Type 0 where
   pub front : List Item
   pub back : List Item
   pub is : item ≡ front ++ (stmts ++ back)
@@ -96,7 +104,8 @@ ident_in _ = ([], 0)
 
 -- `l as x`, as the name x with the identifier l; where it is `l` alone that is the name
 abbrev pub exported_pair : List Item → Text × Ident
-exported_pair specifier = let l : Ident = ident_in (child 0 specifier) in (unwrap_or (name_of (child 1 specifier)) l.0, l)
+exported_pair specifier =
+    let l : Ident = ident_in (child 0 specifier) in (unwrap_or (name_of (child 1 specifier)) l.0, l)
 
 -- whether one comes before another
 abbrev pub is_less : Ordering → Bool
@@ -107,7 +116,10 @@ is_less Greater = false
 -- a pair more, at its place by the name
 abbrev pub put_by_name : Text × Ident → List (Text × Ident) → List (Text × Ident)
 put_by_name pair [] = pair ∷ []
-put_by_name pair (other ∷ rest) = if is_less (slice_cmp nat_cmp other.0 pair.0) then other ∷ put_by_name pair rest else pair ∷ other ∷ rest
+put_by_name pair (other ∷ rest) =
+    if is_less (slice_cmp nat_cmp other.0 pair.0)
+    then other ∷ put_by_name pair rest
+    else pair ∷ other ∷ rest
 
 -- the pairs with their names ascending, byte by byte
 abbrev pub by_names : List (Text × Ident) → List (Text × Ident)
@@ -127,22 +139,32 @@ returned_key x =
 
 -- `x: l`
 abbrev pub returned_property : Text × Ident → List Item
-returned_property pair = h.Open 0 h.KeyValueProp ∷ (returned_key pair.0 ++ h.Ident 1 pair.1.0 pair.1.1 Reference ∷ h.Close ∷ [])
+returned_property pair =
+    h.Open 0 h.KeyValueProp
+    ∷ (returned_key pair.0 ++ h.Ident 1 pair.1.0 pair.1.1 Reference ∷ h.Close ∷ [])
 
 -- `return { x: l, .. };`
 abbrev pub returned_object : List (Text × Ident) → List Item
-returned_object pairs = h.Open 0 h.ReturnStmt ∷ h.Open 0 h.ObjectLit ∷ (flat_map returned_property pairs ++ h.Close ∷ h.Close ∷ [])
+returned_object pairs =
+    h.Open 0 h.ReturnStmt ∷ h.Open 0 h.ObjectLit
+    ∷ (flat_map returned_property pairs ++ h.Close ∷ h.Close ∷ [])
 
--- the items of a module as the body of a function: in the place of the list of exports, which is the last item, or else behind them, the object of the exports is returned
+-- the items of a module as the body of a function: in the place of the list of exports, which is
+-- the last item, or else behind them, the object of the exports is returned
 abbrev pub function_body : List (List Item) → List Item
 function_body [] = returned_object []
-function_body (item ∷ rest) = if begins_with is_export_list item then returned_object (exported_pairs item) else item ++ function_body rest
+function_body (item ∷ rest) =
+    if begins_with is_export_list item
+    then returned_object (exported_pairs item)
+    else item ++ function_body rest
 
--- a body in one function that is called, async exactly where something in it awaits outside functions
+-- a body in one function that is called, async exactly where something in it awaits outside
+-- functions
 abbrev pub called_function : List Item → List Item
 called_function body = function_front (awaits_outside body) ++ (body ++ function_back)
 
--- a module as one function's call. The caller sees to it that no import or export stands in it but perhaps a list of exports without `from`, as the last item
+-- a module as one function's call. The caller sees to it that no import or export stands in it but
+-- perhaps a list of exports without `from`, as the last item
 abbrev pub wrapped : List Item → List Item
 wrapped tree = called_function (function_body (parts tree))
 

@@ -1,15 +1,17 @@
--- Homes: to which scope each declared name belongs, what a scope binds, and which scopes keep their names apart
--- (ECMA-262, 8.2.4 to 8.2.11 on declared names, 10.2.11 on parameters, bodies and `arguments`). All code is strict.
--- Two readings are this linker's own: a `var` or function of a body with the name of a parameter is that parameter,
--- also where a parameter has an expression; and a class declaration has one binding, seen inside the class too.
--- A declaration that stands as the body of an `if`, a loop or a label belongs to the block around it.
+-- Homes: to which scope each declared name belongs, what a scope binds, and which scopes keep their
+-- names apart (ECMA-262, 8.2.4 to 8.2.11 on declared names, 10.2.11 on parameters, bodies and
+-- `arguments`). All code is strict. Two readings are this linker's own: a `var` or function of a
+-- body with the name of a parameter is that parameter, also where a parameter has an expression;
+-- and a class declaration has one binding, seen inside the class too. A declaration that stands as
+-- the body of an `if`, a loop or a label belongs to the block around it.
 use Rattle.std.specs.Prelude.{Bool as Truth, true, false, cond, not, ◌&&◌, ◌||◌, ℕ, List, [], ◌∷◌, Option, Some, None, codes, bytes_eq, filter, unwrap_or}
 use Rattle.std.specs.List.{list_any}
 use Rattle.bundle_syntax.specs.Item.{Item}
 use Rattle.bundle_rules.specs.Scopes.{ModuleKind, Scope, Wrapper, Top, Inner, Parameters, ArrowParameters, FunctionBody, StaticBody, Block, CatchBlock, Loop, Catch, FunctionName, ClassName, same_scope}
 use Rattle.bundle_rules.specs.Declarations.{Way, ByImport, ByVar, ByLet, ByConst, ByFunction, ByClass, ByDefault, ByParameter, ByCatch, ByLoop, ByFunctionName, ByClassName, ByWrapper, Reading, Name, names_agree, Declared, declared}
 
--- whether a scope is the top of a module or the body of a function or a static block, where a `var` belongs
+-- whether a scope is the top of a module or the body of a function or a static block, where a `var`
+-- belongs
 abbrev pub is_body : Scope → Truth
 is_body Top = true
 is_body (Inner FunctionBody begins) = true
@@ -94,7 +96,8 @@ parameters_of (Top ∷ outer) = nearest outer
 parameters_of (Inner FunctionBody begins ∷ outer) = nearest outer
 parameters_of _ = None
 
--- whether a name declared in this way is the parameter of that name, where the body's function has one
+-- whether a name declared in this way is the parameter of that name, where the body's function has
+-- one
 abbrev pub joins_parameter : Way → Truth
 joins_parameter ByVar = true
 joins_parameter ByFunction = true
@@ -102,7 +105,9 @@ joins_parameter _ = false
 
 -- whether a declaration is a parameter of this name in this scope
 abbrev pub is_parameter : Scope → Name → Declared → Truth
-is_parameter scope name d = (is_parameters (taker d) || is_wrapper (taker d)) && same_scope (taker d) scope && names_agree d.name name
+is_parameter scope name d =
+    (is_parameters (taker d) || is_wrapper (taker d)) && same_scope (taker d) scope
+    && names_agree d.name name
 
 -- the parameters' scope, if it has this name, and else the body's
 abbrev pub home_beside : List Declared → Declared → Option Scope → Scope
@@ -111,7 +116,9 @@ home_beside all d (Some scope) = cond (list_any (is_parameter scope d.name) all)
 
 -- the scope to which a declared name belongs, among all declarations of its tree
 abbrev pub home_of : List Declared → Declared → Scope
-home_of all d = cond (joins_parameter d.by) (home_beside all d (parameters_of (from_taker d.by d.scopes))) (taker d)
+home_of all d =
+    cond (joins_parameter d.by) (home_beside all d (parameters_of (from_taker d.by d.scopes)))
+    (taker d)
 
 -- whether a declared name belongs to the scope and agrees with the name
 abbrev pub is_declared_in : List Declared → Scope → Name → Declared → Truth
@@ -131,20 +138,27 @@ is_function Wrapper = true
 is_function (Inner Parameters begins) = true
 is_function _ = false
 
--- whether a scope binds `arguments` without a declaration: one of a function that is no arrow, beside no parameter of that name
+-- whether a scope binds `arguments` without a declaration: one of a function that is no arrow,
+-- beside no parameter of that name
 abbrev pub has_implicit_arguments : List Declared → Scope → Truth
-has_implicit_arguments all scope = is_function scope && not (declares all scope (record { sym = codes "arguments"; ctxt = None }))
+has_implicit_arguments all scope =
+    is_function scope && not (declares all scope (record { sym = codes "arguments"; ctxt = None }))
 
 -- whether a scope binds the name, by a declaration or as the implicit `arguments`
 abbrev pub binds : List Declared → Scope → Name → Truth
-binds all scope name = declares all scope name || (is_arguments name.sym && has_implicit_arguments all scope)
+binds all scope name =
+    declares all scope name || (is_arguments name.sym && has_implicit_arguments all scope)
 
--- the scope whose bindings keep apart in symbol from those of the first of these scopes: parameters and body are one group, a catch parameter and its block too, and any other scope stands alone
+-- the scope whose bindings keep apart in symbol from those of the first of these scopes: parameters
+-- and body are one group, a catch parameter and its block too, and any other scope stands alone
 abbrev pub group_of : List Scope → Scope
 group_of [] = Top
 group_of (Inner CatchBlock begins ∷ outer) = unwrap_or (nearest outer) (Inner CatchBlock begins)
 group_of (scope ∷ outer) = unwrap_or (parameters_of (scope ∷ outer)) scope
 
--- the declarations that belong to the top of a module, or to the parameters that a CommonJS module has there
+-- the declarations that belong to the top of a module, or to the parameters that a CommonJS module
+-- has there
 abbrev pub top_declared : Reading → ModuleKind → List Item → List Declared
-top_declared reading kind items = let all : List Declared = declared reading kind items in filter (λ d. is_top (home_of all d) || is_wrapper (home_of all d)) all
+top_declared reading kind items =
+    let all : List Declared = declared reading kind items in
+    filter (λ d. is_top (home_of all d) || is_wrapper (home_of all d)) all

@@ -1,6 +1,6 @@
--- What a linker writes into a bundle beside the statements of the modules: each form, with names by what they stand
--- for (ECMA-262, 16.2.2 and 16.2.3 for imports and exports; 10.4.6 for the object of a namespace; and the functions
--- in which CommonJS modules stand).
+-- What a linker writes into a bundle beside the statements of the modules: each form, with names by
+-- what they stand for (ECMA-262, 16.2.2 and 16.2.3 for imports and exports; 10.4.6 for the object
+-- of a namespace; and the functions in which CommonJS modules stand).
 use Rattle.std.specs.Prelude.{ℕ, ◌&&◌, ◌||◌, ◌==◌, nat_le, Bool, true, false, List, [], ◌∷◌, ◌++◌, None, bytes_eq, codes, flat_map, if◌then◌else◌}
 use Rattle.std.specs.List.{list_all}
 use Rattle.bundle_syntax.specs.declared.kind.VarDeclKind.{VarDeclKind}
@@ -24,7 +24,8 @@ marks_node field head inside = Begins field head ∷ (inside ++ Ends ∷ [])
 
 -- whether a byte is a letter, `_` or `$`
 abbrev pub is_letter : ℕ → Bool
-is_letter b = (nat_le 97 b && nat_le b 122) || (nat_le 65 b && nat_le b 90) || (b == 95) || (b == 36)
+is_letter b =
+    (nat_le 97 b && nat_le b 122) || (nat_le 65 b && nat_le b 90) || (b == 95) || (b == 36)
 
 -- whether a byte is one of these or a digit
 abbrev pub is_letter_or_digit : ℕ → Bool
@@ -45,7 +46,10 @@ export_name field x = if is_ascii_identifier x then Word field x ∷ [] else str
 
 -- a key of an object or of a pattern of one; `__proto__` is computed
 abbrev pub key_marks : Text → List Mark
-key_marks x = if bytes_eq x (codes "__proto__") then computed_key x else (if is_ascii_identifier x then word_key x else string_marks 0 x)
+key_marks x =
+    if bytes_eq x (codes "__proto__")
+    then computed_key x
+    else (if is_ascii_identifier x then word_key x else string_marks 0 x)
 
 -- a name, with what it is to stand for
 abbrev pub NamedTarget : Type 0
@@ -73,15 +77,21 @@ declaration kind declarators = marks_node 0 (h.VarDecl kind no_notes) declarator
 
 -- `x as l`, of the external s
 abbrev pub import_specifier : Text → Text → List Mark
-import_specifier s x = marks_node 0 h.ImportNamedSpecifier (stands_for 0 (Of (External s (Named x))) ++ export_name 1 x)
+import_specifier s x =
+    marks_node 0 h.ImportNamedSpecifier
+    (stands_for 0 (Of (External s (Named x))) ++ export_name 1 x)
 
 -- `import { x as l, .. } from 's';`
 abbrev pub import_names : Text → List Text → List Mark
-import_names s names = marks_node 0 (h.ImportDecl no_notes) (flat_map (import_specifier s) names ++ string_marks 1 s)
+import_names s names =
+    marks_node 0 (h.ImportDecl no_notes) (flat_map (import_specifier s) names ++ string_marks 1 s)
 
 -- `import * as l from 's';`
 abbrev pub import_whole : Text → List Mark
-import_whole s = marks_node 0 (h.ImportDecl no_notes) (marks_node 0 h.ImportStarAsSpecifier (stands_for 0 (Of (External s Whole))) ++ string_marks 1 s)
+import_whole s =
+    marks_node 0 (h.ImportDecl no_notes)
+    (marks_node 0 h.ImportStarAsSpecifier (stands_for 0 (Of (External s Whole)))
+    ++ string_marks 1 s)
 
 -- `import 's';`
 abbrev pub import_bare : Text → List Mark
@@ -93,7 +103,8 @@ export_star s = marks_node 0 (h.ExportAll no_notes) (string_marks 0 s)
 
 -- `l as x`
 abbrev pub export_specifier : NamedTarget → List Mark
-export_specifier pair = marks_node 0 h.ExportNamedSpecifier (stands_for 0 (Of pair.1) ++ export_name 1 pair.0)
+export_specifier pair =
+    marks_node 0 h.ExportNamedSpecifier (stands_for 0 (Of pair.1) ++ export_name 1 pair.0)
 
 -- `export { l as x, .. };`
 abbrev pub export_list : List NamedTarget → List Mark
@@ -117,11 +128,13 @@ return_object pairs = marks_node 0 h.ReturnStmt (object 0 pairs)
 abbrev pub namespace_object : ℕ → List NamedTarget → List Mark
 namespace_object d pairs =
     declaration Const (declarator (declares 0 (Of (Namespace d)))
-    (marks_node 1 h.CallExpr (marks_node 0 h.FnExpr (marks_node 1 (h.Function false false) (marks_node 1 h.BlockStmt (return_object pairs))))))
+    (marks_node 1 h.CallExpr (marks_node 0 h.FnExpr (marks_node 1 (h.Function false false)
+    (marks_node 1 h.BlockStmt (return_object pairs))))))
 
 -- `const importMeta = { .. };`, with these properties
 abbrev pub meta_object : ℕ → List Mark → List Mark
-meta_object m properties = declaration Const (declarator (declares 0 (Meta m)) (marks_node 1 h.ObjectLit properties))
+meta_object m properties =
+    declaration Const (declarator (declares 0 (Meta m)) (marks_node 1 h.ObjectLit properties))
 
 -- CommonJS modules.
 
@@ -131,38 +144,47 @@ load_call field c = marks_node field h.CallExpr (stands_for 0 (Load c))
 
 -- `x: l`, where l stands for what the taker takes
 abbrev pub load_property : ℕ → ℕ → Text → List Mark
-load_property taker c x = marks_node 0 h.KeyValuePatProp (key_marks x ++ declares 1 (Of (CommonJs taker c (Named x))))
+load_property taker c x =
+    marks_node 0 h.KeyValuePatProp (key_marks x ++ declares 1 (Of (CommonJs taker c (Named x))))
 
 -- `{ x: l, .. }`, as a pattern
 abbrev pub load_pattern : ℕ → ℕ → List Text → List Mark
 load_pattern taker c names = marks_node 0 h.ObjectPat (flat_map (load_property taker c) names)
 
--- the statement by which a module loads a CommonJS module: `load();`, `var { x: l, .. } = load();`, `var w = load();` or `var w = load(), { x: l, .. } = w;`
+-- the statement by which a module loads a CommonJS module: `load();`, `var { x: l, .. } = load();`,
+-- `var w = load();` or `var w = load(), { x: l, .. } = w;`
 abbrev pub load_statement : ℕ → ℕ → Bool → List Text → List Mark
 load_statement taker c false [] = marks_node 0 h.ExprStmt (load_call 0 c)
-load_statement taker c false (x ∷ more) = declaration Var (declarator (load_pattern taker c (x ∷ more)) (load_call 1 c))
-load_statement taker c true [] = declaration Var (declarator (declares 0 (Of (CommonJs taker c Whole))) (load_call 1 c))
+load_statement taker c false (x ∷ more) =
+    declaration Var (declarator (load_pattern taker c (x ∷ more)) (load_call 1 c))
+load_statement taker c true [] =
+    declaration Var (declarator (declares 0 (Of (CommonJs taker c Whole))) (load_call 1 c))
 load_statement taker c true (x ∷ more) =
-    declaration Var (declarator (declares 0 (Of (CommonJs taker c Whole))) (load_call 1 c) ++ declarator (load_pattern taker c (x ∷ more)) (stands_for 1 (Of (CommonJs taker c Whole))))
+    declaration Var
+    (declarator (declares 0 (Of (CommonJs taker c Whole))) (load_call 1 c)
+    ++ declarator (load_pattern taker c (x ∷ more)) (stands_for 1 (Of (CommonJs taker c Whole))))
 
 -- a parameter
 abbrev pub parameter : List Mark → List Mark
 parameter name = marks_node 0 h.Param (marks_node 0 h.BindingIdent name)
 
--- `var load = __swcpack_require__(function (module, exports) {`: what stands before the statements of a CommonJS module
+-- `var load = __swcpack_require__(function (module, exports) {`: what stands before the statements
+-- of a CommonJS module
 abbrev pub load_front : ℕ → List Mark
 load_front c =
     Begins 0 (h.VarDecl Var no_notes) ∷ Begins 1 h.VarDeclarator ∷ (declares 0 (Load c)
     ++ Begins 1 h.CallExpr ∷ (stands_for 0 Helper
-    ++ Begins 1 (h.ExprOrSpread false) ∷ Begins 1 h.FnExpr ∷ Begins 1 (h.Function false false) ∷ (parameter (stands_for 0 (Parameter c (codes "module")))
+    ++ Begins 1 (h.ExprOrSpread false) ∷ Begins 1 h.FnExpr ∷ Begins 1 (h.Function false false)
+    ∷ (parameter (stands_for 0 (Parameter c (codes "module")))
     ++ parameter (stands_for 0 (Parameter c (codes "exports"))) ++ Begins 1 h.BlockStmt ∷ [])))
 
 -- `});`: what stands behind them
 abbrev pub load_back : List Mark
 load_back = Ends ∷ Ends ∷ Ends ∷ Ends ∷ Ends ∷ Ends ∷ Ends ∷ []
 
--- The helper: `function __swcpack_require__(fn) { var module; return function () { if (!module) { module = { exports: {} };
--- fn.call(module.exports, module, module.exports); } return module.exports; }; }`
+-- The helper: `function __swcpack_require__(fn) { var module; return function () { if (!module) {
+-- module = { exports: {} }; fn.call(module.exports, module, module.exports); } return
+-- module.exports; }; }`
 
 -- the helper's parameter
 abbrev pub its_fn : ℕ → List Mark
@@ -174,7 +196,8 @@ its_module field = Name field (Inside 1) ∷ []
 
 -- `module.exports`
 abbrev pub its_exports : ℕ → List Mark
-its_exports field = marks_node field h.MemberExpr (its_module 0 ++ marks_node 1 (h.IdentName (codes "exports")) [])
+its_exports field =
+    marks_node field h.MemberExpr (its_module 0 ++ marks_node 1 (h.IdentName (codes "exports")) [])
 
 -- an argument of a call
 abbrev pub argument : List Mark → List Mark
@@ -182,16 +205,40 @@ argument value = marks_node 1 (h.ExprOrSpread false) value
 
 -- `module = { exports: {} };`
 abbrev pub makes_module : List Mark
-makes_module = marks_node 0 h.ExprStmt (marks_node 0 (h.AssignExpr Assign) (marks_node 1 h.BindingIdent (its_module 0) ++ marks_node 2 h.ObjectLit (marks_node 0 h.KeyValueProp (word_key (codes "exports") ++ marks_node 1 h.ObjectLit []))))
+makes_module =
+    marks_node 0 h.ExprStmt
+    (marks_node 0 (h.AssignExpr Assign)
+    (marks_node 1 h.BindingIdent (its_module 0)
+    ++ marks_node 2 h.ObjectLit
+    (marks_node 0 h.KeyValueProp
+    (word_key (codes "exports") ++ marks_node 1 h.ObjectLit []))))
 
 -- `fn.call(module.exports, module, module.exports);`
 abbrev pub runs_module : List Mark
-runs_module = marks_node 0 h.ExprStmt (marks_node 0 h.CallExpr (marks_node 0 h.MemberExpr (its_fn 0 ++ marks_node 1 (h.IdentName (codes "call")) []) ++ argument (its_exports 1) ++ argument (its_module 1) ++ argument (its_exports 1)))
+runs_module =
+    marks_node 0 h.ExprStmt
+    (marks_node 0 h.CallExpr
+    (marks_node 0 h.MemberExpr (its_fn 0 ++ marks_node 1 (h.IdentName (codes "call")) [])
+    ++ argument (its_exports 1) ++ argument (its_module 1) ++ argument (its_exports 1)))
 
 -- the function that loads a module at its first call
 abbrev pub loads_once : List Mark
-loads_once = marks_node 1 (h.Function false false) (marks_node 1 h.BlockStmt (marks_node 0 h.IfStmt (marks_node 0 (h.UnaryExpr Bang) (its_module 1) ++ marks_node 1 h.BlockStmt (makes_module ++ runs_module)) ++ marks_node 0 h.ReturnStmt (its_exports 0)))
+loads_once =
+    marks_node 1 (h.Function false false)
+    (marks_node 1 h.BlockStmt
+    (marks_node 0 h.IfStmt
+    (marks_node 0 (h.UnaryExpr Bang) (its_module 1)
+    ++ marks_node 1 h.BlockStmt (makes_module ++ runs_module))
+    ++ marks_node 0 h.ReturnStmt (its_exports 0)))
 
 -- the helper
 abbrev pub helper_function : List Mark
-helper_function = marks_node 0 h.FnDecl (stands_for 0 Helper ++ marks_node 1 (h.Function false false) (parameter (its_fn 0) ++ marks_node 1 h.BlockStmt (declaration Var (marks_node 1 h.VarDeclarator (marks_node 0 h.BindingIdent (its_module 0))) ++ marks_node 0 h.ReturnStmt (marks_node 0 h.FnExpr loads_once))))
+helper_function =
+    marks_node 0 h.FnDecl
+    (stands_for 0 Helper
+    ++ marks_node 1 (h.Function false false)
+    (parameter (its_fn 0)
+    ++ marks_node 1 h.BlockStmt
+    (declaration Var
+    (marks_node 1 h.VarDeclarator (marks_node 0 h.BindingIdent (its_module 0)))
+    ++ marks_node 0 h.ReturnStmt (marks_node 0 h.FnExpr loads_once))))

@@ -1,6 +1,6 @@
--- What a bundler keeps from call to call: the files that were met, the trees that were loaded, and which file each
--- pair of a file and a specifier is (ECMA-262, 16.2.1.7 HostResolveImportedModule: the same pair gives the same
--- module each time).
+-- What a bundler keeps from call to call: the files that were met, the trees that were loaded, and
+-- which file each pair of a file and a specifier is (ECMA-262, 16.2.1.7 HostResolveImportedModule:
+-- the same pair gives the same module each time).
 use Rattle.std.specs.Prelude.{◌≡◌, ℕ, ◌+◌, ◌*◌, ◌&&◌, Bool, List, [], ◌∷◌, ◌++◌, Option, Some, length, position, slice_get, bytes_eq, option_and_then}
 use Rattle.std.specs.Map.{lookup}
 use Rattle.bundle_tree_names.specs.FileName.{Name, name_eq}
@@ -18,7 +18,8 @@ pub record Asked : Type 0 where
 abbrev pub asked_eq : Asked → Asked → Bool
 asked_eq a b = name_eq a.file b.file && bytes_eq a.specifier b.specifier
 
--- what is kept: the files that were met, in the order of meeting, where the number of a file is its place; the trees by file; the files by pair
+-- what is kept: the files that were met, in the order of meeting, where the number of a file is its
+-- place; the trees by file; the files by pair
 pub record Kept : Type 0 where
   pub names : List Name
   pub trees : List (Name × Loaded)
@@ -55,11 +56,13 @@ pub record Stays (old new : Kept) : Type 0 where
 
 -- Numbers of files.
 
--- a file gets its number, and nothing else changes; one that was met keeps it, and another gets the next
+-- a file gets its number, and nothing else changes; one that was met keeps it, and another gets the
+-- next
 pub record IsNumbered (old : List Name) (file : Name) (n : ℕ) (new : List Name) : Type 0 where
   pub there : slice_get new n ≡ Some file
   pub known : (m : ℕ) → slice_get old m ≡ Some file → (new ≡ old) × (n ≡ m)
-  pub next : ((m : ℕ) → slice_get old m ≡ Some file → ⊥) → (new ≡ old ++ file ∷ []) × (n ≡ length old)
+  pub next : ((m : ℕ) → slice_get old m ≡ Some file → ⊥) →
+      (new ≡ old ++ file ∷ []) × (n ≡ length old)
 
 -- the contexts of a module: the local one and that of its exports
 abbrev pub local_context : ℕ → ℕ
@@ -73,7 +76,11 @@ export_context n = 2 * n + 3
 
 -- the number of the file that a specifier leads to, in the file with this number
 abbrev pub led_to : Kept → ℕ → Text → Option ℕ
-led_to kept m s = option_and_then (λ file. option_and_then (number_in kept) (kept_file kept (record { file = file; specifier = s }))) (slice_get kept.names m)
+led_to kept m s =
+    option_and_then
+    (λ file.
+    option_and_then (number_in kept) (kept_file kept (record { file = file; specifier = s })))
+    (slice_get kept.names m)
 
 -- the program of an entry over what is kept
 abbrev pub program_of : Kept → Settings → ℕ → Program

@@ -1,5 +1,6 @@
--- Words that a binding may not keep (ECMA-262, 12.7.2: keywords and reserved words, those of strict code, and the
--- future reserved words of earlier editions), and what a binding with such a symbol is called.
+-- Words that a binding may not keep (ECMA-262, 12.7.2: keywords and reserved words, those of strict
+-- code, and the future reserved words of earlier editions), and what a binding with such a symbol
+-- is called.
 use Rattle.std.specs.Prelude.{◌≡◌, ℕ, Bool as Truth, cond, not, ◌&&◌, ◌==◌, nat_le, IsTrue, List, [], ◌∷◌, ◌++◌, codes, bytes_eq, map}
 use Rattle.std.specs.List.{list_any, AllZip}
 use Rattle.bundle_syntax.specs.Item.{Item}
@@ -100,7 +101,8 @@ keyword_free_of sym (Global symbol) = sym
 -- the symbols of a module's occurrences once no binding has a keyword's
 abbrev pub keyword_free_symbols : List Item → List (List ℕ)
 keyword_free_symbols items =
-    let all : List Declared = declared ByContext Es items in map (λ o. keyword_free_of o.sym (denoted_of ByContext Es all o)) (occurrences items)
+    let all : List Declared = declared ByContext Es items in
+    map (λ o. keyword_free_of o.sym (denoted_of ByContext Es all o)) (occurrences items)
 
 -- whether one of these occurrences has this identifier
 abbrev pub has_ident : List Occurrence → List ℕ → ℕ → Truth
@@ -110,14 +112,20 @@ has_ident all sym ctxt = list_any (λ o. bytes_eq o.sym sym && o.ctxt == ctxt) a
 abbrev pub is_unused_context : List Occurrence → ℕ → Truth
 is_unused_context all ctxt = nat_le 2 ctxt && not (list_any (λ o. o.ctxt == ctxt) all)
 
--- whether one of these occurrences may become another: it keeps its context, unless it gets a symbol that some occurrence has with that context; then it gets an unused one
+-- whether one of these occurrences may become another: it keeps its context, unless it gets a
+-- symbol that some occurrence has with that context; then it gets an unused one
 abbrev pub has_right_context : List Occurrence → Occurrence → Occurrence → Truth
 has_right_context all old new =
-    cond (not (bytes_eq old.sym new.sym) && has_ident all new.sym old.ctxt) (is_unused_context all new.ctxt) (new.ctxt == old.ctxt)
+    cond (not (bytes_eq old.sym new.sym) && has_ident all new.sym old.ctxt)
+    (is_unused_context all new.ctxt) (new.ctxt == old.ctxt)
 
--- the tree after has the symbols of the one before, but for a `__` before a keyword's that a binding had; contexts change only where they must; it is resolved, and its names denote what they did
+-- the tree after has the symbols of the one before, but for a `__` before a keyword's that a
+-- binding had; contexts change only where they must; it is resolved, and its names denote what they
+-- did
 pub record IsKeywordFree (before after : List Item) : Type 0 where
   pub symbols : map (λ o. o.sym) (occurrences after) ≡ keyword_free_symbols before
-  pub contexts : AllZip (λ old new. IsTrue (has_right_context (occurrences before) old new)) (occurrences before) (occurrences after)
+  pub contexts :
+      AllZip (λ old new. IsTrue (has_right_context (occurrences before) old new))
+      (occurrences before) (occurrences after)
   pub resolved : IsResolved Es after
   pub alike : DenoteAlike ByContext before ByContext after

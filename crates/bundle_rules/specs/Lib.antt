@@ -19,7 +19,8 @@ pub mod Marks
 pub mod Shape
 pub mod Rebuilds
 pub mod Renamed
--- What one tree says: reads, imports and exports, what is bound, where it waits; and an order of items.
+-- What one tree says: reads, imports and exports, what is bound, where it waits; and an order of
+-- items.
 pub mod Reads
 pub mod Entries
 pub mod Bound

@@ -1,4 +1,5 @@
--- What a name that a module exports stands for (ECMA-262, 16.2.1.6.3 ResolveExport, and 16.2.1.10 for namespaces).
+-- What a name that a module exports stands for (ECMA-262, 16.2.1.6.3 ResolveExport, and 16.2.1.10
+-- for namespaces).
 use Rattle.std.specs.Prelude.{◌≡◌, ◌≢◌, ℕ, ◌⊎◌, IsTrue, false, List, Option, Some, None, Contains, codes}
 use Rattle.bundle_rules.specs.Nodes.{Text}
 use Rattle.bundle_rules.specs.Statements.{default_name}
@@ -16,13 +17,17 @@ pub record Requires (p : Program) (m c : ℕ) : Type 0 where
 
 -- the module uses a name that CommonJS gives it
 abbrev pub UsesCommonJs : Program → ℕ → Type 0
-UsesCommonJs p m = IsTrue (has_free (tree_of p m) (codes "require")) ⊎ (IsTrue (has_free (tree_of p m) (codes "module")) ⊎ IsTrue (has_free (tree_of p m) (codes "exports")))
+UsesCommonJs p m =
+    IsTrue (has_free (tree_of p m) (codes "require"))
+    ⊎ (IsTrue (has_free (tree_of p m) (codes "module"))
+    ⊎ IsTrue (has_free (tree_of p m) (codes "exports")))
 
 -- some reached module requires it
 abbrev pub IsRequired : Program → ℕ → Type 0
 IsRequired p m = (n : ℕ) × IsReached p n × Requires p n m
 
--- in this bundle the module is CommonJS: it is not the entry, it is a script, and it uses a name of CommonJS or is required
+-- in this bundle the module is CommonJS: it is not the entry, it is a script, and it uses a name of
+-- CommonJS or is required
 pub record IsCommonJs (p : Program) (m : ℕ) : Type 0 where
   pub linked : IsTrue p.settings.require
   pub other : m ≢ p.entry
@@ -31,7 +36,8 @@ pub record IsCommonJs (p : Program) (m : ℕ) : Type 0 where
 
 -- Targets.
 
--- what a name can stand for: a declaration of a module; the namespace of a module; what is taken of an external; what a module takes of a CommonJS module
+-- what a name can stand for: a declaration of a module; the namespace of a module; what is taken of
+-- an external; what a module takes of a CommonJS module
 pub data Target : Type 0 where
   Declared : (m : ℕ) (x : Text) → Target
   Namespace : (m : ℕ) → Target
@@ -43,10 +49,13 @@ pub record IsModule (p : Program) (m : ℕ) (s : Text) (d : ℕ) : Type 0 where
   pub resolved : resolves p m s ≡ Some d
   pub es : IsCommonJs p d → ⊥
 
--- `Takes p m s taken t`: what m takes by the specifier s is t, without a look at the exports of another module
+-- `Takes p m s taken t`: what m takes by the specifier s is t, without a look at the exports of
+-- another module
 pub data Takes (p : Program) (m : ℕ) : Text → Taken → Target → Type 0 where
   -- of an external, any name or the whole
-  of_external : {s : Text} {taken : Taken} → IsTrue (is_external p s) → Takes p m s taken (External s taken)
+  of_external : {s : Text} {taken : Taken} →
+      IsTrue (is_external p s) →
+      Takes p m s taken (External s taken)
   -- of a CommonJS module, any property or the whole
   of_common_js : {s : Text} {taken : Taken} {c : ℕ} →
       resolves p m s ≡ Some c →
@@ -68,14 +77,16 @@ pub record Origin : Type 0 where
   pub which : ℕ
   pub local : Text
 
--- `Gives p m x t origin`: by its exports m gives the target t for the name x. The least such relation: a cycle of entries gives nothing by itself
+-- `Gives p m x t origin`: by its exports m gives the target t for the name x. The least such
+-- relation: a cycle of entries gives nothing by itself
 pub data Gives (p : Program) : ℕ → Text → Target → Option Origin → Type 0 where
   -- an entry of a name that m declares gives that declaration
   declaration : {m : ℕ} {x y : Text} →
       Contains (exports p m) (Local x y) →
       import_of (imports p m) y ≡ None →
       Gives p m x (Declared m y) None
-  -- an entry of a name bound by `import * as` gives what that import takes, and goes with m and the name
+  -- an entry of a name bound by `import * as` gives what that import takes, and goes with m and the
+  -- name
   namespace_import : {m : ℕ} {x y : Text} {t : Target} (entry : ImportEntry) →
       Contains (exports p m) (Local x y) →
       import_of (imports p m) y ≡ Some entry →
@@ -92,7 +103,8 @@ pub data Gives (p : Program) : ℕ → Text → Target → Option Origin → Typ
       IsModule p m s d →
       Gives p d y t origin →
       Gives p m x t origin
-  -- a star gives what the other module gives, but for `default` and for names of which m has an entry
+  -- a star gives what the other module gives, but for `default` and for names of which m has an
+  -- entry
   starred : {m d : ℕ} {x s : Text} {t : Target} {origin : Option Origin} →
       has_own_entry (tree_of p m) x ≡ false →
       x ≢ default_name →
@@ -105,7 +117,9 @@ pub data Gives (p : Program) : ℕ → Text → Target → Option Origin → Typ
 pub record Linked (p : Program) (m : ℕ) (x : Text) (t : Target) : Type 0 where
   pub origin : Option Origin
   pub given : Gives p m x t origin
-  pub only : (other : Target) (its : Option Origin) → Gives p m x other its → (other ≡ t) × (its ≡ origin)
+  pub only : (other : Target) (its : Option Origin) →
+      Gives p m x other its →
+      (other ≡ t) × (its ≡ origin)
 
 -- the name x is linked in m
 abbrev pub IsLinked : Program → ℕ → Text → Type 0
@@ -125,7 +139,8 @@ pub record IsAmbiguous (p : Program) (m : ℕ) (x : Text) : Type 0 where
 abbrev pub IsMissing : Program → ℕ → Text → Type 0
 IsMissing p m x = (t : Target) (origin : Option Origin) → Gives p m x t origin → ⊥
 
--- `HasExternalStar p m s`: the external s is starred by m, or at the end of a finite chain of stars from m
+-- `HasExternalStar p m s`: the external s is starred by m, or at the end of a finite chain of stars
+-- from m
 pub data HasExternalStar (p : Program) : ℕ → Text → Type 0 where
   own : {m : ℕ} {s : Text} →
       Contains (exports p m) (Star s) →

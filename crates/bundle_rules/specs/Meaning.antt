@@ -1,6 +1,7 @@
--- What a statement means: its tree, in which each name is replaced by what it denotes (ECMA-262, 9.4.2
--- ResolveBinding; 16.2.1.6.4, by which an imported name is the binding of another module; 10.4.6 for reads of a
--- namespace). Contexts and notes are left out, and shorthands are spelled out (13.2.5, 14.3.3).
+-- What a statement means: its tree, in which each name is replaced by what it denotes (ECMA-262,
+-- 9.4.2 ResolveBinding; 16.2.1.6.4, by which an imported name is the binding of another module;
+-- 10.4.6 for reads of a namespace). Contexts and notes are left out, and shorthands are spelled out
+-- (13.2.5, 14.3.3).
 use Rattle.std.specs.Prelude.{◌≡◌, ℕ, zero, suc, nat_le, Bool, true, false, List, [], ◌∷◌, ◌++◌, Option, Some, None, Contains, filter, filter_map, position, slice_get}
 use Rattle.bundle_syntax.specs.declared.piece.Role.{Role}
 use Rattle.bundle_syntax.specs.declared.piece.Role.TheVariants.{Word as IsWord}
@@ -23,7 +24,9 @@ use Rattle.bundle_rules.specs.Linking.{IsCommonJs, Target, Namespace, Linked, St
 
 -- Meanings.
 
--- what a binding of a bundle can stand for: a target; a parameter of a CommonJS module's function; the function that loads a CommonJS module; what `import.meta` is in a module; the helper of those functions
+-- what a binding of a bundle can stand for: a target; a parameter of a CommonJS module's function;
+-- the function that loads a CommonJS module; what `import.meta` is in a module; the helper of those
+-- functions
 pub data Label : Type 0 where
   Of : Target → Label
   Parameter : (c : ℕ) (x : Text) → Label
@@ -31,7 +34,8 @@ pub data Label : Type 0 where
   Meta : (m : ℕ) → Label
   Helper : Label
 
--- what a name means: a binding inside the statement, by its number in the order of first mention; what a binding outside stands for; a global
+-- what a name means: a binding inside the statement, by its number in the order of first mention;
+-- what a binding outside stands for; a global
 pub data Meant : Type 0 where
   Inside : ℕ → Meant
   Known : Label → Meant
@@ -66,7 +70,8 @@ is_inside start _ = false
 
 -- the bindings inside a statement that begins at this place, in the order of first mention
 abbrev pub inner_bindings : View → ℕ → List Element → List Denoted
-inner_bindings view start statement = each_denoted_once (filter (is_inside start) (filter_map (denoted view) statement))
+inner_bindings view start statement =
+    each_denoted_once (filter (is_inside start) (filter_map (denoted view) statement))
 
 -- The meaning of a list of elements.
 
@@ -80,7 +85,8 @@ abbrev pub replacement_marks : ℕ → Replacement → List Mark
 replacement_marks field (ByName l) = Name field (Known l) ∷ []
 replacement_marks field (ByCall l) = Begins field h.CallExpr ∷ Name 0 (Known l) ∷ Ends ∷ []
 
--- how a tree gets its meaning: what the node that begins at a place is replaced by, where it is replaced, and what a binding outside a statement stands for
+-- how a tree gets its meaning: what the node that begins at a place is replaced by, where it is
+-- replaced, and what a binding outside a statement stands for
 pub record Sense : Type 1 where
   pub view : View
   pub replaced : ℕ → Replacement → Type 0
@@ -115,51 +121,65 @@ pub data NameMeans (sense : Sense) (inner : List Denoted) : Denoted → Meant �
 -- `Means sense inner elements marks`: the elements, one after the other, mean these marks
 pub data Means (sense : Sense) (inner : List Denoted) : List Element → List Mark → Type 0 where
   finished : Means sense inner [] []
-  -- a node that is replaced; what stands in it is passed over, so that of two one in the other the outer one counts
-  replaced : {place field : ℕ} {head : Head} {rest : List Element} {marks : List Mark} (by : Replacement) →
+  -- a node that is replaced; what stands in it is passed over, so that of two one in the other the
+  -- outer one counts
+  replaced :
+      {place field : ℕ} {head : Head} {rest : List Element} {marks : List Mark} (by : Replacement) →
       sense.replaced place by →
       Means sense inner (past_end zero rest) marks →
-      Means sense inner (taken place (h.Open field head) ∷ rest) (replacement_marks field by ++ marks)
+      Means sense inner (taken place (h.Open field head) ∷ rest)
+      (replacement_marks field by ++ marks)
   -- any other node begins
   begun : {place field : ℕ} {head : Head} {rest : List Element} {marks : List Mark} →
       ((by : Replacement) → sense.replaced place by → ⊥) →
       Means sense inner rest marks →
-      Means sense inner (taken place (h.Open field head) ∷ rest) (begin_marks sense.view.tree place field (path_at sense.view.tree place) head ++ marks)
+      Means sense inner (taken place (h.Open field head) ∷ rest)
+      (begin_marks sense.view.tree place field (path_at sense.view.tree place) head ++ marks)
   ended : {place : ℕ} {rest : List Element} {marks : List Mark} →
       Means sense inner rest marks →
-      Means sense inner (taken place h.Close ∷ rest) (end_marks sense.view.tree (path_at sense.view.tree place) ++ marks)
+      Means sense inner (taken place h.Close ∷ rest)
+      (end_marks sense.view.tree (path_at sense.view.tree place) ++ marks)
   empty : {place field : ℕ} {rest : List Element} {marks : List Mark} →
       Means sense inner rest marks →
       Means sense inner (taken place (h.Hole field) ∷ rest) (Empty field ∷ marks)
   -- a name means what it denotes
-  named : {place field ctxt : ℕ} {sym : Text} {role : Role} {rest : List Element} {marks : List Mark} (d : Denoted) (meant : Meant) →
+  named :
+      {place field ctxt : ℕ} {sym : Text} {role : Role} {rest : List Element} {marks : List Mark}
+      (d : Denoted) (meant : Meant) →
       denoted sense.view (taken place (h.Ident field sym ctxt role)) ≡ Some d →
       NameMeans sense inner d meant →
       Means sense inner rest marks →
-      Means sense inner (taken place (h.Ident field sym ctxt role) ∷ rest) (name_marks field (path_at sense.view.tree place) sym meant ++ marks)
+      Means sense inner (taken place (h.Ident field sym ctxt role) ∷ rest)
+      (name_marks field (path_at sense.view.tree place) sym meant ++ marks)
   -- a plain word stays
   word : {place field ctxt : ℕ} {sym : Text} {rest : List Element} {marks : List Mark} →
       Means sense inner rest marks →
-      Means sense inner (taken place (h.Ident field sym ctxt IsWord) ∷ rest) (Word field sym ∷ marks)
+      Means sense inner (taken place (h.Ident field sym ctxt IsWord) ∷ rest)
+      (Word field sym ∷ marks)
   -- what is written in addition
   adds_begin : {field : ℕ} {head : Head} {rest : List Element} {marks : List Mark} →
       Means sense inner rest marks →
-      Means sense inner (written (h.Open field head) ∷ rest) (Begins field (cleared_head head) ∷ marks)
+      Means sense inner (written (h.Open field head) ∷ rest)
+      (Begins field (cleared_head head) ∷ marks)
   adds_end : {rest : List Element} {marks : List Mark} →
       Means sense inner rest marks →
       Means sense inner (written h.Close ∷ rest) (Ends ∷ marks)
-  adds_name : {field ctxt : ℕ} {sym : Text} {role : Role} {rest : List Element} {marks : List Mark} (meant : Meant) →
+  adds_name :
+      {field ctxt : ℕ} {sym : Text} {role : Role} {rest : List Element} {marks : List Mark}
+      (meant : Meant) →
       NameMeans sense inner (Bound Top (plain sym)) meant →
       Means sense inner rest marks →
       Means sense inner (written (h.Ident field sym ctxt role) ∷ rest) (Name field meant ∷ marks)
 
 -- the meaning of a statement that begins at this place
 abbrev pub StatementMeans : Sense → ℕ → List Element → List Mark → Type 0
-StatementMeans sense start statement marks = Means sense (inner_bindings sense.view start statement) statement marks
+StatementMeans sense start statement marks =
+    Means sense (inner_bindings sense.view start statement) statement marks
 
 -- Static reads of namespaces.
 
--- `ReadsAs p m place t`: the expression at this place of m is an imported name or a static read, and means t
+-- `ReadsAs p m place t`: the expression at this place of m is an imported name or a static read,
+-- and means t
 pub data ReadsAs (p : Program) (m : ℕ) : ℕ → Target → Type 0 where
   -- a name at the top of the module means what it stands for
   by_name : {place : ℕ} {x : Text} {t : Target} →
@@ -195,7 +215,8 @@ pub data Replaced (p : Program) (m : ℕ) : ℕ → Replacement → Type 0 where
       resolves p m call.specifier ≡ Some c →
       Replaced p m place (ByCall (Load c))
 
--- what a binding at the top of a module stands for; a CommonJS module's `module`, `exports` and `arguments` are its function's
+-- what a binding at the top of a module stands for; a CommonJS module's `module`, `exports` and
+-- `arguments` are its function's
 pub data OwnName (p : Program) (m : ℕ) : Denoted → Label → Type 0 where
   at_top : {x : Text} {t : Target} → StandsFor p m x t → OwnName p m (Bound Top (plain x)) (Of t)
   parameter : {x : Text} → OwnName p m (Bound Wrapper (plain x)) (Parameter m x)
@@ -211,10 +232,12 @@ own_view p m kind = record { tree = tree_of p m; kind = kind; reading = BySymbol
 
 -- how a module gets its meaning
 abbrev pub own_sense : Program → ℕ → ModuleKind → Sense
-own_sense p m kind = record { view = own_view p m kind; replaced = Replaced p m; Stands = OwnName p m }
+own_sense p m kind =
+    record { view = own_view p m kind; replaced = Replaced p m; Stands = OwnName p m }
 
 -- a statement of m means these marks
-pub record OwnMeaning (p : Program) (m : ℕ) (statement : List Element) (marks : List Mark) : Type 0 where
+pub record OwnMeaning
+    (p : Program) (m : ℕ) (statement : List Element) (marks : List Mark) : Type 0 where
   pub kind : ModuleKind
   pub has_kind : HasKind p m kind
   pub means : StatementMeans (own_sense p m kind) 0 statement marks
@@ -238,25 +261,36 @@ pub record IsOneToOne (labels : Labelling) : Type 0 where
 
 -- how a bundle gets its meaning: nothing is replaced, and its bindings stand for their labels
 abbrev pub bundle_sense : List Item → Reading → Labelling → Sense
-bundle_sense tree reading labels = record { view = record { tree = tree; kind = Es; reading = reading }; replaced = λ place by. ⊥; Stands = λ d l. Contains labels (d, l) }
+bundle_sense tree reading labels =
+    record {
+      view = record { tree = tree; kind = Es; reading = reading };
+      replaced = λ place by. ⊥;
+      Stands = λ d l. Contains labels (d, l);
+    }
 
 -- What is meant.
 
--- the nodes of the module around an element of a statement; around what is written in addition stands none
+-- the nodes of the module around an element of a statement; around what is written in addition
+-- stands none
 abbrev pub around_element : List Item → Element → List Around
 around_element tree (taken place x) = path_at tree place
 around_element tree (written x) = []
 
 -- the element lies in no node that is replaced
 abbrev pub IsLeft : Program → ℕ → Element → Type 0
-IsLeft p m e = (node : Around) (by : Replacement) → Contains (around_element (tree_of p m) e) node → Replaced p m node.begins by → ⊥
+IsLeft p m e =
+    (node : Around) (by : Replacement) →
+    Contains (around_element (tree_of p m) e) node →
+    Replaced p m node.begins by →
+    ⊥
 
 -- the label that a replacement means
 abbrev pub label_of : Replacement → Label
 label_of (ByName l) = l
 label_of (ByCall l) = l
 
--- `SaysAt p m e l`: at this element of a statement of m the label is meant, by a name that stands for it or by a node that is replaced by it
+-- `SaysAt p m e l`: at this element of a statement of m the label is meant, by a name that stands
+-- for it or by a node that is replaced by it
 pub data SaysAt (p : Program) (m : ℕ) : Element → Label → Type 0 where
   says_name : {kind : ModuleKind} {e : Element} {d : Denoted} {l : Label} →
       HasKind p m kind →
@@ -267,7 +301,9 @@ pub data SaysAt (p : Program) (m : ℕ) : Element → Label → Type 0 where
       Replaced p m place by →
       SaysAt p m (taken place (h.Open field head)) (label_of by)
 
--- the least set of labels that a bundle needs: what own statements of reached modules mean, place by place, what the entry's exports are linked to, and what the names of a namespace are linked to that is itself meant
+-- the least set of labels that a bundle needs: what own statements of reached modules mean, place
+-- by place, what the entry's exports are linked to, and what the names of a namespace are linked to
+-- that is itself meant
 pub data IsMeant (p : Program) : Label → Type 0 where
   by_statement : {m : ℕ} {statement : List Element} {e : Element} {l : Label} →
       IsReached p m →

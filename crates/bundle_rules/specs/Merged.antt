@@ -1,5 +1,5 @@
--- The merged modules of a linked program, before they are renamed or put into one function's call: what is merged, and
--- what comes of it (own; ECMA-262, 9.4.2 for what the names denote).
+-- The merged modules of a linked program, before they are renamed or put into one function's call:
+-- what is merged, and what comes of it (own; ECMA-262, 9.4.2 for what the names denote).
 use Rattle.std.specs.Prelude.{◌≡◌, ◌≢◌, ℕ, ◌<◌, Bool, true, false, List, [], ◌∷◌, ◌++◌, Some, None, Contains, slice_get, codes}
 use Rattle.bundle_syntax.specs.declared.kind.ExportMetadata.{ExportMetadata}
 use Rattle.bundle_syntax.specs.declared.kind.VarDeclKind.TheVariants.{Const}
@@ -37,10 +37,14 @@ pub record Contexts : Type 0 where
 -- `const importMeta = { .. };`, with this context, these notes and these properties
 abbrev pub meta_item : ExportMetadata → ℕ → List Item → List Item
 meta_item meta ctxt properties =
-    h.Open 0 (h.VarDecl Const meta) ∷ h.Open 1 h.VarDeclarator ∷ h.Open 0 h.BindingIdent ∷ h.Ident 0 (codes "importMeta") ctxt Binding ∷ h.Close
+    h.Open 0 (h.VarDecl Const meta) ∷ h.Open 1 h.VarDeclarator ∷ h.Open 0 h.BindingIdent
+    ∷ h.Ident 0 (codes "importMeta") ctxt Binding ∷ h.Close
     ∷ h.Open 1 h.ObjectLit ∷ (properties ++ h.Close ∷ h.Close ∷ h.Close ∷ [])
 
--- an item is the one that holds the `import.meta` of m: properties without a fault that the hook may answer, resolved by themselves with contexts above that of globals, so that nothing outside binds a name in them; its own binding has a context above that of globals too, which stands nowhere in them
+-- an item is the one that holds the `import.meta` of m: properties without a fault that the hook
+-- may answer, resolved by themselves with contexts above that of globals, so that nothing outside
+-- binds a name in them; its own binding has a context above that of globals too, which stands
+-- nowhere in them
 pub record IsMetaItem (p : Program) (hooks : Hooks) (m : ℕ) (item : List Item) : Type 0 where
   pub answered : List Item
   pub held : MayHold p hooks m answered
@@ -50,7 +54,8 @@ pub record IsMetaItem (p : Program) (hooks : Hooks) (m : ℕ) (item : List Item)
   pub next : ℕ
   pub later : ℕ
   pub inside : 1 < next
-  pub resolved : IsResolvedFrom Es local next later (properties_tree answered) (properties_tree properties)
+  pub resolved :
+      IsResolvedFrom Es local next later (properties_tree answered) (properties_tree properties)
   pub meta : ExportMetadata
   pub ctxt : ℕ
   pub above : 1 < ctxt
@@ -65,8 +70,11 @@ pub data MetaItems (p : Program) (hooks : Hooks) (m : ℕ) : List (List Item) �
       IsMetaItem p hooks m item →
       MetaItems p hooks m (item ∷ [])
 
--- the prepared items of a module: its `import.meta`, in which nothing has the local context, and the items of its tree, resolved as what it is in the bundle; the two have no context in common but 1
-pub record AreItemsOf (p : Program) (hooks : Hooks) (local : ℕ) (m : ℕ) (items : List (List Item)) : Type 0 where
+-- the prepared items of a module: its `import.meta`, in which nothing has the local context, and
+-- the items of its tree, resolved as what it is in the bundle; the two have no context in common
+-- but 1
+pub record AreItemsOf
+    (p : Program) (hooks : Hooks) (local : ℕ) (m : ℕ) (items : List (List Item)) : Type 0 where
   pub front : List (List Item)
   pub is_front : MetaItems p hooks m front
   pub tree : List Item
@@ -93,8 +101,13 @@ pub record StandsIn (prepared : Parts) (m : ℕ) (o : Occurrence) : Type 0 where
   pub its : Contains (items_in (in_order prepared) m) item
   pub there : Contains (occurrences item) o
 
--- what is merged: the items of each reached module of a program that has no fault of linking and in which no module declares a name twice, since a module that does is never resolved; contexts tell modules apart, nothing in the items of a module has the local context of another, and from `next` on they are free
-pub record IsPrepared (p : Program) (hooks : Hooks) (contexts : ℕ → Contexts) (next : ℕ) (prepared : Parts) : Type 0 where
+-- what is merged: the items of each reached module of a program that has no fault of linking and in
+-- which no module declares a name twice, since a module that does is never resolved; contexts tell
+-- modules apart, nothing in the items of a module has the local context of another, and from `next`
+-- on they are free
+pub record IsPrepared
+    (p : Program) (hooks : Hooks) (contexts : ℕ → Contexts) (next : ℕ)
+    (prepared : Parts) : Type 0 where
   pub checked : IsChecked p None
   pub undoubled : (m : ℕ) (kind : ModuleKind) →
       IsReached p m →
@@ -115,24 +128,35 @@ pub record IsPrepared (p : Program) (hooks : Hooks) (contexts : ℕ → Contexts
       StandsIn prepared m o →
       IsReached p n →
       o.ctxt ≢ (contexts n).local
-  pub locals : (m n : ℕ) → IsReached p m → IsReached p n → (contexts m).local ≡ (contexts n).local → m ≡ n
+  pub locals : (m n : ℕ) →
+      IsReached p m →
+      IsReached p n →
+      (contexts m).local ≡ (contexts n).local →
+      m ≡ n
   pub exports : (m n : ℕ) →
       IsReached p m →
       IsReached p n →
       (contexts m).exported ≡ (contexts n).exported →
       m ≡ n
-  pub differ : (m n : ℕ) → IsReached p m → IsReached p n → (contexts m).local ≢ (contexts n).exported
+  pub differ : (m n : ℕ) →
+      IsReached p m →
+      IsReached p n →
+      (contexts m).local ≢ (contexts n).exported
   pub unused : (m n : ℕ) (o : Occurrence) →
       StandsIn prepared m o →
       IsReached p n →
       o.ctxt ≢ (contexts n).exported
   pub above_one : (m : ℕ) → IsReached p m → (1 < (contexts m).local) × (1 < (contexts m).exported)
-  pub below_next : (m : ℕ) → IsReached p m → ((contexts m).local < next) × ((contexts m).exported < next)
+  pub below_next : (m : ℕ) →
+      IsReached p m →
+      ((contexts m).local < next) × ((contexts m).exported < next)
   pub free : (m : ℕ) (o : Occurrence) → StandsIn prepared m o → o.ctxt < next
 
 -- What comes of it.
 
--- contexts of a bundle that is read by them, where names are spelled so: a name that a module declares has the module's local one; one that is spelled otherwise may have lost it, but only to a name that is spelled so with it; a global has 1
+-- contexts of a bundle that is read by them, where names are spelled so: a name that a module
+-- declares has the module's local one; one that is spelled otherwise may have lost it, but only to
+-- a name that is spelled so with it; a global has 1
 pub record HasContexts (spelled : Text → Text) (local : ℕ → ℕ) (b : Labelled) : Type 0 where
   pub declared : (scope : Scope) (name : Name) (m : ℕ) (x : Text) →
       Contains b.labels (Bound scope name, Of (Declared m x)) →
@@ -166,16 +190,26 @@ HasOthersAbove p b =
 
 -- no binding has the context 1, which is that of globals
 abbrev pub BindsOwn : List Item → Type 0
-BindsOwn tree = (n : ℕ) (o : Occurrence) → slice_get (occurrences tree) n ≡ Some o → is_binding o.role ≡ true → o.ctxt ≢ 1
+BindsOwn tree =
+    (n : ℕ) (o : Occurrence) →
+    slice_get (occurrences tree) n ≡ Some o →
+    is_binding o.role ≡ true →
+    o.ctxt ≢ 1
 
--- the merged modules are a bundle in the form of a module, read by symbol and context: resolved, with an identifier for each declaration, with the contexts of the modules and none of them 1, and each binding called as its label, spelled so: as it is, or with `__` before a keyword once keywords are renamed
-pub record IsMerged (spelled : Text → Text) (local : ℕ → ℕ) (p : Program) (hooks : Hooks) (tree : List Item) : Type 0 where
+-- the merged modules are a bundle in the form of a module, read by symbol and context: resolved,
+-- with an identifier for each declaration, with the contexts of the modules and none of them 1, and
+-- each binding called as its label, spelled so: as it is, or with `__` before a keyword once
+-- keywords are renamed
+pub record IsMerged
+    (spelled : Text → Text) (local : ℕ → ℕ) (p : Program) (hooks : Hooks)
+    (tree : List Item) : Type 0 where
   pub is_bundle : IsBundle p hooks AsModule ByContext tree
   pub resolved : IsResolved Es tree
   pub named : HasNamesOnly tree
   pub contexts : HasContexts spelled local (labelled tree ByContext is_bundle.pairing)
   pub binds : BindsOwn tree
-  pub called : AreCalled spelled p hooks (labelled tree ByContext is_bundle.pairing) is_bundle.pairing
+  pub called :
+      AreCalled spelled p hooks (labelled tree ByContext is_bundle.pairing) is_bundle.pairing
 
 -- the modules of a program as they are joined, before keywords are renamed: they are merged with
 -- their names as they are, own statements keep their forms, and all that is no module's name has

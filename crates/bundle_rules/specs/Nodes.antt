@@ -1,4 +1,5 @@
--- The nodes of a tree's list: which lie directly in a node, in which field, and the texts that stand there.
+-- The nodes of a tree's list: which lie directly in a node, in which field, and the texts that
+-- stand there.
 use Rattle.std.specs.Prelude.{◌≡◌, ℕ, zero, suc, Bool, true, false, not, List, [], ◌∷◌, ◌++◌, Option, Some, None, ◌==◌, filter, flat_map, bytes_eq, drop}
 use Rattle.std.specs.List.{list_any}
 use Rattle.bundle_syntax.specs.Item as h
@@ -27,14 +28,19 @@ abbrev pub put_first : Item → List (List Item) → List (List Item)
 put_first x [] = (x ∷ []) ∷ []
 put_first x (xs ∷ more) = (x ∷ xs) ∷ more
 
--- the nodes that stand side by side, up to the end of the node around them; `depth` of them are still open
+-- the nodes that stand side by side, up to the end of the node around them; `depth` of them are
+-- still open
 abbrev pub side_by_side : ℕ → List Item → List (List Item)
 side_by_side depth [] = []
-side_by_side depth (h.Open field head ∷ rest) = put_first (h.Open field head) (side_by_side (suc depth) rest)
-side_by_side zero (h.Ident field sym ctxt role ∷ rest) = (h.Ident field sym ctxt role ∷ []) ∷ side_by_side zero rest
-side_by_side (suc depth) (h.Ident field sym ctxt role ∷ rest) = put_first (h.Ident field sym ctxt role) (side_by_side (suc depth) rest)
+side_by_side depth (h.Open field head ∷ rest) =
+    put_first (h.Open field head) (side_by_side (suc depth) rest)
+side_by_side zero (h.Ident field sym ctxt role ∷ rest) =
+    (h.Ident field sym ctxt role ∷ []) ∷ side_by_side zero rest
+side_by_side (suc depth) (h.Ident field sym ctxt role ∷ rest) =
+    put_first (h.Ident field sym ctxt role) (side_by_side (suc depth) rest)
 side_by_side zero (h.Hole field ∷ rest) = (h.Hole field ∷ []) ∷ side_by_side zero rest
-side_by_side (suc depth) (h.Hole field ∷ rest) = put_first (h.Hole field) (side_by_side (suc depth) rest)
+side_by_side (suc depth) (h.Hole field ∷ rest) =
+    put_first (h.Hole field) (side_by_side (suc depth) rest)
 side_by_side zero (h.Close ∷ rest) = []
 side_by_side (suc zero) (h.Close ∷ rest) = (h.Close ∷ []) ∷ side_by_side zero rest
 side_by_side (suc (suc depth)) (h.Close ∷ rest) = put_first h.Close (side_by_side (suc depth) rest)
@@ -48,7 +54,9 @@ parts (first ∷ inside) = side_by_side zero inside
 abbrev pub flat : List (List Item) → List Item
 flat lists = flat_map (λ list. list) lists
 
--- the list stands whole in the node around it: up to that node's end it is nodes side by side. So no end stands in it that is none of theirs, and none of them is left open, which would take the end behind them for its own
+-- the list stands whole in the node around it: up to that node's end it is nodes side by side. So
+-- no end stands in it that is none of theirs, and none of them is left open, which would take the
+-- end behind them for its own
 abbrev pub StandsWhole : List Item → Type 0
 StandsWhole items = flat (side_by_side zero (items ++ h.Close ∷ [])) ≡ items
 
@@ -132,7 +140,8 @@ begins_with test _ = false
 -- whether some node of the list has a head that passes the test
 abbrev pub has_head : (Head → Bool) → List Item → Bool
 has_head test [] = false
-has_head test (h.Open field head ∷ rest) = elim (test head) [ true ↦ true | false ↦ has_head test rest ]
+has_head test (h.Open field head ∷ rest) =
+    elim (test head) [ true ↦ true | false ↦ has_head test rest ]
 has_head test (x ∷ rest) = has_head test rest
 
 -- the node that begins at a place of a tree

@@ -1,5 +1,6 @@
--- Lists of items by module, as a linker holds them while it joins modules: what stands in front, the bodies, and what
--- stands behind. Each part holds pairs of a module and an item, by modules as these first came into it.
+-- Lists of items by module, as a linker holds them while it joins modules: what stands in front,
+-- the bodies, and what stands behind. Each part holds pairs of a module and an item, by modules as
+-- these first came into it.
 use Rattle.std.specs.Prelude.{◌≡◌, ℕ, nat_eq, Bool, true, false, List, [], ◌∷◌, ◌++◌, map, flat_map, filter, if◌then◌else◌}
 use Rattle.std.specs.List.{AllZip}
 use Rattle.bundle_syntax.specs.Item as h
@@ -13,7 +14,8 @@ Owned = ℕ × List Item
 -- the items by modules, as these first come, each module's in their order
 abbrev pub by_modules : List Owned → List Owned
 by_modules [] = []
-by_modules ((m, item) ∷ rest) = (m, item) ∷ (filter (λ pair. nat_eq pair.0 m) rest ++ others m (by_modules rest))
+by_modules ((m, item) ∷ rest) =
+    (m, item) ∷ (filter (λ pair. nat_eq pair.0 m) rest ++ others m (by_modules rest))
   where
     others : ℕ → List Owned → List Owned
     others n pairs = filter (λ pair. if nat_eq pair.0 n then false else true) pairs
@@ -87,11 +89,14 @@ modules_in pairs = numbers_once (map (λ pair. pair.0) pairs)
 
 -- the same of each part
 abbrev pub in_each_part : (List Owned → List Owned) → Parts → Parts
-in_each_part f parts = record { prepended = f parts.prepended; bodies = f parts.bodies; appended = f parts.appended }
+in_each_part f parts =
+    record { prepended = f parts.prepended; bodies = f parts.bodies; appended = f parts.appended }
 
 -- each module's list of items mapped, part by part
 abbrev pub with_lists : (ℕ → List (List Item) → List (List Item)) → Parts → Parts
-with_lists f parts = in_each_part (λ pairs. flat_map (λ m. owned_by m (f m (items_in pairs m))) (modules_in pairs)) parts
+with_lists f parts =
+    in_each_part (λ pairs. flat_map (λ m. owned_by m (f m (items_in pairs m))) (modules_in pairs))
+    parts
 
 -- each item mapped
 abbrev pub with_items : (ℕ → List Item → List Item) → Parts → Parts
@@ -104,13 +109,17 @@ with_only test parts = in_each_part (filter (λ pair. test pair.0 pair.1)) parts
 -- The same by what a closure answers, which is perhaps no function.
 
 -- something holds of each part before and after
-pub record HoldsOfParts (Holds : List Owned → List Owned → Type 0) (before after : Parts) : Type 0 where
+pub record HoldsOfParts
+    (Holds : List Owned → List Owned → Type 0) (before after : Parts) : Type 0 where
   pub prepended : Holds before.prepended after.prepended
   pub bodies : Holds before.bodies after.bodies
   pub appended : Holds before.appended after.appended
 
--- `ListsAnswered May pairs modules new`: for each of these modules, its list of items is replaced by what may be answered to it
-pub data ListsAnswered (May : ℕ → List (List Item) → List (List Item) → Type 0) (pairs : List Owned) : List ℕ → List Owned → Type 0 where
+-- `ListsAnswered May pairs modules new`: for each of these modules, its list of items is replaced
+-- by what may be answered to it
+pub data ListsAnswered
+    (May : ℕ → List (List Item) → List (List Item) → Type 0) (pairs : List Owned) :
+    List ℕ → List Owned → Type 0 where
   over : ListsAnswered May pairs [] []
   next : {m : ℕ} {rest : List ℕ} {new : List Owned} (answer : List (List Item)) →
       May m (items_in pairs m) answer →
@@ -119,7 +128,8 @@ pub data ListsAnswered (May : ℕ → List (List Item) → List (List Item) → 
 
 -- each module's list of items in each part is replaced by an answer
 abbrev pub MapsLists : (ℕ → List (List Item) → List (List Item) → Type 0) → Parts → Parts → Type 0
-MapsLists May before after = HoldsOfParts (λ old new. ListsAnswered May old (modules_in old) new) before after
+MapsLists May before after =
+    HoldsOfParts (λ old new. ListsAnswered May old (modules_in old) new) before after
 
 -- an item of the same module, as may be answered
 pub record ItemAnswered (May : ℕ → List Item → List Item → Type 0) (old new : Owned) : Type 0 where
@@ -130,7 +140,8 @@ pub record ItemAnswered (May : ℕ → List Item → List Item → Type 0) (old 
 abbrev pub MapsItems : (ℕ → List Item → List Item → Type 0) → Parts → Parts → Type 0
 MapsItems May before after = HoldsOfParts (AllZip (ItemAnswered May)) before after
 
--- `Retained May old new`: an item for which true is answered stays, and one for which false is answered goes
+-- `Retained May old new`: an item for which true is answered stays, and one for which false is
+-- answered goes
 pub data Retained (May : ℕ → List Item → Bool → Type 0) : List Owned → List Owned → Type 0 where
   over : Retained May [] []
   stays : {one : Owned} {old new : List Owned} →

@@ -1,6 +1,6 @@
--- Places in the list of a tree, the nodes that are open at a place, and the identifiers that stand there
--- (ECMA-262, 8.2: which names a piece of source binds). A place is a position in the list, which is that of a
--- module or of a list of a module's items.
+-- Places in the list of a tree, the nodes that are open at a place, and the identifiers that stand
+-- there (ECMA-262, 8.2: which names a piece of source binds). A place is a position in the list,
+-- which is that of a module or of a list of a module's items.
 use Rattle.std.specs.Prelude.{ℕ, ◌+◌, Bool as Truth, true, false, List, [], ◌∷◌, Option, Some, None, take, fold, slice_get, option_and_then}
 use Rattle.std.specs.List.{cons_option}
 use Rattle.bundle_syntax.specs.declared.piece.Role.{Role}
@@ -8,7 +8,8 @@ use Rattle.bundle_syntax.specs.declared.piece.Role.TheVariants as r
 use Rattle.bundle_syntax.specs.Item as h
 use Rattle.bundle_syntax.specs.Item.{Item, Head}
 
--- a node that is open at a place: its head, the position where it begins, and in which of its fields the place lies
+-- a node that is open at a place: its head, the position where it begins, and in which of its
+-- fields the place lies
 pub record Around : Type 0 where
   pub head : Head
   pub begins : ℕ
@@ -31,7 +32,8 @@ outer_path (node ∷ outer) = outer
 
 -- the path behind an item at this place: a node that begins lies in a field of the one around it
 abbrev pub path_past : ℕ → List Around → Item → List Around
-path_past place path (h.Open field head) = record { head = head; begins = place; field = 0 } ∷ in_field field path
+path_past place path (h.Open field head) =
+    record { head = head; begins = place; field = 0 } ∷ in_field field path
 path_past place path (h.Ident field sym ctxt role) = path
 path_past place path (h.Hole field) = path
 path_past place path h.Close = outer_path path
@@ -64,7 +66,8 @@ path_to_option path (Some item) = path_to path item
 abbrev pub path_at : List Item → ℕ → List Around
 path_at items place = path_to_option (spot_before items place).path (slice_get items place)
 
--- an identifier that binds a name or refers to one: where it stands, its symbol and context, which of the two it does, and the nodes around it
+-- an identifier that binds a name or refers to one: where it stands, its symbol and context, which
+-- of the two it does, and the nodes around it
 pub record Occurrence : Type 0 where
   pub place : ℕ
   pub sym : List ℕ
@@ -72,22 +75,33 @@ pub record Occurrence : Type 0 where
   pub role : Role
   pub path : List Around
 
--- the occurrence that an item at a spot is: a node is none, and neither is an identifier that is a plain word
+-- the occurrence that an item at a spot is: a node is none, and neither is an identifier that is a
+-- plain word
 abbrev pub occurrence_of : Spot → Item → Option Occurrence
 occurrence_of spot (h.Ident field sym ctxt r.Word) = None
-occurrence_of spot (h.Ident field sym ctxt role) = Some (record { place = spot.place; sym = sym; ctxt = ctxt; role = role; path = in_field field spot.path })
+occurrence_of spot (h.Ident field sym ctxt role) =
+    Some
+    (record {
+      place = spot.place;
+      sym = sym;
+      ctxt = ctxt;
+      role = role;
+      path = in_field field spot.path;
+    })
 occurrence_of spot (h.Open field head) = None
 occurrence_of spot (h.Hole field) = None
 occurrence_of spot h.Close = None
 
 -- the occurrence at a place
 abbrev pub occurrence_at : List Item → ℕ → Option Occurrence
-occurrence_at items place = option_and_then (occurrence_of (spot_before items place)) (slice_get items place)
+occurrence_at items place =
+    option_and_then (occurrence_of (spot_before items place)) (slice_get items place)
 
 -- the occurrences in the items from a spot on
 abbrev pub occurrences_from : Spot → List Item → List Occurrence
 occurrences_from spot [] = []
-occurrences_from spot (item ∷ rest) = cons_option (occurrence_of spot item) (occurrences_from (past spot item) rest)
+occurrences_from spot (item ∷ rest) =
+    cons_option (occurrence_of spot item) (occurrences_from (past spot item) rest)
 
 -- the occurrences of a list, in the order of the source
 abbrev pub occurrences : List Item → List Occurrence

@@ -1,4 +1,5 @@
--- Reads of members: where `p.x` is read, and neither written to nor optional (ECMA-262, 13.3.2, 13.3.9, 13.5.1, 13.15.2).
+-- Reads of members: where `p.x` is read, and neither written to nor optional (ECMA-262, 13.3.2,
+-- 13.3.9, 13.5.1, 13.15.2).
 use Rattle.std.specs.Prelude.{ℕ, ◌==◌, ◌&&◌, ◌||◌, Bool, true, false, List, [], ◌∷◌, Option, Some, None, if◌then◌else◌}
 use Rattle.bundle_syntax.specs.declared.operator.UnaryOp.TheVariants.{Delete}
 use Rattle.bundle_syntax.specs.Item as h
@@ -34,7 +35,8 @@ writes h.ForInStmt field = field == 0
 writes (h.ForOfStmt is_await) field = field == 1
 writes _ field = false
 
--- whether what stands in this field of such a node is written to where the node is: parentheses and patterns
+-- whether what stands in this field of such a node is written to where the node is: parentheses and
+-- patterns
 abbrev pub passes_writes : Head → ℕ → Bool
 passes_writes h.ParenExpr field = true
 passes_writes h.ArrayPat field = true
@@ -44,10 +46,12 @@ passes_writes h.AssignPat field = field == 0
 passes_writes h.KeyValuePatProp field = field == 1
 passes_writes _ field = false
 
--- whether what stands in these nodes is a target of an assignment, an update, a `delete` or a loop head
+-- whether what stands in these nodes is a target of an assignment, an update, a `delete` or a loop
+-- head
 abbrev pub is_written_to : List Around → Bool
 is_written_to [] = false
-is_written_to (node ∷ outer) = writes node.head node.field || (passes_writes node.head node.field && is_written_to outer)
+is_written_to (node ∷ outer) =
+    writes node.head node.field || (passes_writes node.head node.field && is_written_to outer)
 
 -- whether such a node is an optional chain
 abbrev pub is_optional_chain : Head → Bool

@@ -1,6 +1,7 @@
--- What is made of a tree by its list: its marks, its occurrences, and the same tree with other identifiers. What a
--- shorthand or a specifier of one name means is kept where its symbol changes, by spelling it out (ECMA-262, 13.2.5 and
--- B.3.1 for object literals, 14.3.3 for patterns, 16.2.2 and 16.2.3 for imports and exports).
+-- What is made of a tree by its list: its marks, its occurrences, and the same tree with other
+-- identifiers. What a shorthand or a specifier of one name means is kept where its symbol changes,
+-- by spelling it out (ECMA-262, 13.2.5 and B.3.1 for object literals, 14.3.3 for patterns, 16.2.2
+-- and 16.2.3 for imports and exports).
 use Rattle.std.specs.Prelude.{◌≡◌, ℕ, suc, ◌+◌, ◌==◌, ◌&&◌, ◌||◌, Bool, false, not, List, [], ◌∷◌, ◌++◌, Option, Some, None, length, map, flat_map, take, slice_get, bytes_eq, codes, option_map, unwrap_or, if◌then◌else◌}
 use Rattle.std.specs.Map.{lookup}
 use Rattle.bundle_syntax.specs.declared.piece.Role.{Role}
@@ -15,7 +16,8 @@ use Rattle.bundle_rules.specs.Idents.{Ident, ident_of, idents}
 
 -- Marks.
 
--- one mark of a tree: a node begins in a field, a plain word too; the innermost open one ends; an identifier binds or refers
+-- one mark of a tree: a node begins in a field, a plain word too; the innermost open one ends; an
+-- identifier binds or refers
 pub data TreeMark : Type 0 where
   Begins : (field : ℕ) → Head → TreeMark
   BeginsWord : (field : ℕ) → Text → TreeMark
@@ -56,7 +58,8 @@ listed_in (Ends ∷ rest) = listed_in rest
 
 -- Other identifiers.
 
--- an identifier that is to stand in the place of another, and whether what is short there is spelled out
+-- an identifier that is to stand in the place of another, and whether what is short there is
+-- spelled out
 pub record Change : Type 0 where
   pub ident : Ident
   pub is_spelled_out : Bool
@@ -78,13 +81,20 @@ is_key_spelled_out tree changes begins = spells_out (change_at tree changes (beg
 abbrev pub plain_key : Text → List Item
 plain_key x = h.Open 0 (h.IdentName x) ∷ h.Close ∷ []
 
--- the key that a shorthand of an object literal is spelled out with; a plain `__proto__` would set the prototype
+-- the key that a shorthand of an object literal is spelled out with; a plain `__proto__` would set
+-- the prototype
 abbrev pub key_in_object : Text → List Item
-key_in_object x = if bytes_eq x (codes "__proto__") then h.Open 0 h.ComputedPropName ∷ h.Open 0 (h.Str x None) ∷ h.Close ∷ h.Close ∷ [] else plain_key x
+key_in_object x =
+    if bytes_eq x (codes "__proto__")
+    then h.Open 0 h.ComputedPropName ∷ h.Open 0 (h.Str x None) ∷ h.Close ∷ h.Close ∷ []
+    else plain_key x
 
--- the beginning of a shorthand property of a pattern, spelled out: `{ x }` is `{ x: y }`, and `{ x = e }` is `{ x: y = e }`
+-- the beginning of a shorthand property of a pattern, spelled out: `{ x }` is `{ x: y }`, and `{ x
+-- = e }` is `{ x: y = e }`
 abbrev pub pattern_front : ℕ → Text → (with_default : Bool) → List Item
-pattern_front field x with_default = h.Open field h.KeyValuePatProp ∷ (plain_key x ++ (if with_default then h.Open 1 h.AssignPat ∷ [] else []))
+pattern_front field x with_default =
+    h.Open field h.KeyValuePatProp
+    ∷ (plain_key x ++ (if with_default then h.Open 1 h.AssignPat ∷ [] else []))
 
 -- the beginning of a node
 abbrev pub new_begin : List Item → List Change → ℕ → ℕ → List Around → Head → List Item
@@ -94,7 +104,8 @@ new_begin tree changes place field around h.AssignPatProp =
     else h.Open field h.AssignPatProp ∷ []
 new_begin tree changes place field [] head = h.Open field head ∷ []
 new_begin tree changes place field (node ∷ outer) head =
-    if is_shorthand_in_pattern node.head && node.field == 0 && is_key_spelled_out tree changes node.begins
+    if is_shorthand_in_pattern node.head && node.field == 0
+    && is_key_spelled_out tree changes node.begins
     then h.Open (if has_default tree node.begins then 0 else 1) head ∷ []
     else h.Open field head ∷ []
 
@@ -102,15 +113,19 @@ new_begin tree changes place field (node ∷ outer) head =
 abbrev pub new_end : List Item → List Change → List Around → List Item
 new_end tree changes [] = h.Close ∷ []
 new_end tree changes (node ∷ outer) =
-    if is_shorthand_in_pattern node.head && has_default tree node.begins && is_key_spelled_out tree changes node.begins
+    if is_shorthand_in_pattern node.head && has_default tree node.begins
+    && is_key_spelled_out tree changes node.begins
     then h.Close ∷ h.Close ∷ []
     else h.Close ∷ []
 
--- in the place of `x`, directly in such a node: a shorthand of an object literal is spelled out as a pair, and a specifier that has no other name gets one; `is_last` says whether the node ends behind it
+-- in the place of `x`, directly in such a node: a shorthand of an object literal is spelled out as
+-- a pair, and a specifier that has no other name gets one; `is_last` says whether the node ends
+-- behind it
 abbrev pub spelled_out : ℕ → Head → (is_last : Bool) → Text → Role → Ident → List Item
 spelled_out field head is_last x role ident =
     if is_object head
-    then h.Open field h.KeyValueProp ∷ (key_in_object x ++ h.Ident 1 ident.0 ident.1 role ∷ h.Close ∷ [])
+    then h.Open field h.KeyValueProp
+    ∷ (key_in_object x ++ h.Ident 1 ident.0 ident.1 role ∷ h.Close ∷ [])
     else (if is_specifier head && is_last
     then h.Ident field ident.0 ident.1 role ∷ h.Ident 1 x 0 IsWord ∷ []
     else h.Ident field ident.0 ident.1 role ∷ [])
@@ -124,22 +139,29 @@ new_name field (node ∷ outer) is_last x role change =
     else h.Ident field change.ident.0 change.ident.1 role ∷ []
 
 -- an occurrence, where perhaps it changes
-abbrev pub new_occurrence : ℕ → List Around → (is_last : Bool) → Text → ℕ → Role → Option Change → List Item
+abbrev pub new_occurrence :
+    ℕ → List Around → (is_last : Bool) → Text → ℕ → Role → Option Change → List Item
 new_occurrence field around is_last x ctxt role None = h.Ident field x ctxt role ∷ []
-new_occurrence field around is_last x ctxt role (Some change) = new_name field around is_last x role change
+new_occurrence field around is_last x ctxt role (Some change) =
+    new_name field around is_last x role change
 
 -- what stands in the place of an element of the tree
 abbrev pub new_item : List Item → List Change → ℕ → List Around → Item → List Item
-new_item tree changes place around (h.Open field head) = new_begin tree changes place field around head
-new_item tree changes place around (h.Ident field sym ctxt IsWord) = h.Ident field sym ctxt IsWord ∷ []
-new_item tree changes place around (h.Ident field sym ctxt role) = new_occurrence field around (ends_at (slice_get tree (suc place))) sym ctxt role (change_at tree changes place)
+new_item tree changes place around (h.Open field head) =
+    new_begin tree changes place field around head
+new_item tree changes place around (h.Ident field sym ctxt IsWord) =
+    h.Ident field sym ctxt IsWord ∷ []
+new_item tree changes place around (h.Ident field sym ctxt role) =
+    new_occurrence field around (ends_at (slice_get tree (suc place))) sym ctxt role
+    (change_at tree changes place)
 new_item tree changes place around (h.Hole field) = h.Hole field ∷ []
 new_item tree changes place around h.Close = new_end tree changes around
 
 -- the same of the elements from this place on
 abbrev pub rebuilt_from : List Item → List Change → ℕ → List Item → List Item
 rebuilt_from tree changes place [] = []
-rebuilt_from tree changes place (x ∷ rest) = new_item tree changes place (path_at tree place) x ++ rebuilt_from tree changes (suc place) rest
+rebuilt_from tree changes place (x ∷ rest) =
+    new_item tree changes place (path_at tree place) x ++ rebuilt_from tree changes (suc place) rest
 
 -- the tree with these changes of its occurrences in turn, and no other but what is spelled out
 abbrev pub rebuilt : List Item → List Change → List Item
@@ -155,7 +177,8 @@ changes_to (old ∷ olds) (new ∷ news) = change_to old new ∷ changes_to olds
 changes_to [] news = []
 changes_to olds [] = []
 
--- the tree with these identifiers at its occurrences in turn; nothing else changes but what is spelled out
+-- the tree with these identifiers at its occurrences in turn; nothing else changes but what is
+-- spelled out
 abbrev pub with_idents : List Item → List Ident → List Item
 with_idents tree new = rebuilt tree (changes_to (idents tree) new)
 
@@ -181,13 +204,15 @@ IsCopy before after = after ≡ before
 
 -- One renaming after the other.
 
--- a renaming: what identifiers become, and for each whether some step changed its symbol; the first pair of an identifier counts
+-- a renaming: what identifiers become, and for each whether some step changed its symbol; the first
+-- pair of an identifier counts
 abbrev pub Renaming : Type 0
 Renaming = List (Ident × Change)
 
 -- what an identifier becomes; one that is not in it stays
 abbrev pub change_by : Renaming → Ident → Change
-change_by renaming ident = unwrap_or (lookup (ident_eq ident) renaming) (record { ident = ident; is_spelled_out = false })
+change_by renaming ident =
+    unwrap_or (lookup (ident_eq ident) renaming) (record { ident = ident; is_spelled_out = false })
 
 -- what is found for an identifier
 abbrev pub found : Renaming → Ident → Option Ident
@@ -203,7 +228,9 @@ renamed_all renaming tree = rebuilt tree (map (change_by renaming) (idents tree)
 
 -- a change, and then what a renaming makes of it
 abbrev pub change_then : Renaming → Change → Change
-change_then renaming change = let next : Change = change_by renaming change.ident in record { ident = next.ident; is_spelled_out = change.is_spelled_out || next.is_spelled_out }
+change_then renaming change =
+    let next : Change = change_by renaming change.ident in
+    record { ident = next.ident; is_spelled_out = change.is_spelled_out || next.is_spelled_out }
 
 -- one renaming after the other
 abbrev pub followed_by : Renaming → Renaming → Renaming
@@ -211,4 +238,5 @@ followed_by first second = map (λ pair. (pair.0, change_then second pair.1)) fi
 
 -- the law: to rename a tree by one and then by the other is to rename it by both
 abbrev pub RenamingsCompose : Renaming → Renaming → List Item → Type 0
-RenamingsCompose first second tree = renamed_all second (renamed_all first tree) ≡ renamed_all (followed_by first second) tree
+RenamingsCompose first second tree =
+    renamed_all second (renamed_all first tree) ≡ renamed_all (followed_by first second) tree

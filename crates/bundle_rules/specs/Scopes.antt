@@ -1,13 +1,14 @@
--- Scopes: which nodes make one, and what it covers (ECMA-262, 9.1 on environments; 10.2.11 and 15 on functions,
--- 14.2 blocks, 14.7 loops, 14.12 switches, 14.15 catch, 15.7 classes, 16.2 modules). A node makes a scope whether it
--- declares a name there or not; a loop whose head declares nothing, or a function without a name of its own, binds
--- nothing in it.
+-- Scopes: which nodes make one, and what it covers (ECMA-262, 9.1 on environments; 10.2.11 and 15
+-- on functions, 14.2 blocks, 14.7 loops, 14.12 switches, 14.15 catch, 15.7 classes, 16.2 modules).
+-- A node makes a scope whether it declares a name there or not; a loop whose head declares nothing,
+-- or a function without a name of its own, binds nothing in it.
 use Rattle.std.specs.Prelude.{ℕ, ◌+◌, Bool as Truth, true, false, cond, ◌==◌, List, [], ◌∷◌, ◌++◌, Option, Some, None}
 use Rattle.bundle_syntax.specs.Item as h
 use Rattle.bundle_syntax.specs.Item.{Head}
 use Rattle.bundle_rules.specs.Places.{Around}
 
--- what a tree is read as: the code of an ECMAScript module, or that of `function (module, exports) { .. }`
+-- what a tree is read as: the code of an ECMAScript module, or that of `function (module, exports)
+-- { .. }`
 pub data ModuleKind : Type 0 where
   Es : ModuleKind
   Cjs : ModuleKind
@@ -30,7 +31,8 @@ pub data ScopeKind : Type 0 where
   FunctionName : ScopeKind
   ClassName : ScopeKind
 
--- a scope: the parameters `module` and `exports` of a CommonJS module, the top of a module, or that of the node which begins at a position; no node makes two
+-- a scope: the parameters `module` and `exports` of a CommonJS module, the top of a module, or that
+-- of the node which begins at a position; no node makes two
 pub data Scope : Type 0 where
   Wrapper : Scope
   Top : Scope
@@ -71,7 +73,8 @@ abbrev pub exports_default : Head → Truth
 exports_default h.ExportDefaultDecl = true
 exports_default _ = false
 
--- whether a function or class with these nodes around it is a default declaration, whose name is one of the module's top
+-- whether a function or class with these nodes around it is a default declaration, whose name is
+-- one of the module's top
 abbrev pub is_default : List Around → Truth
 is_default [] = false
 is_default (node ∷ outer) = exports_default node.head
@@ -106,4 +109,5 @@ outermost Cjs = Top ∷ Wrapper ∷ []
 -- the scopes around a place, innermost first
 abbrev pub scopes_around : ModuleKind → List Around → List Scope
 scopes_around kind [] = outermost kind
-scopes_around kind (node ∷ outer) = scope_at node.begins (kind_of_scope node.head node.field outer) ++ scopes_around kind outer
+scopes_around kind (node ∷ outer) =
+    scope_at node.begins (kind_of_scope node.head node.field outer) ++ scopes_around kind outer

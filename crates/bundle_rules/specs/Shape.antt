@@ -1,6 +1,6 @@
--- A tree without its names: its form, whatever its identifiers are. A shorthand whose symbol changes is spelled out
--- (ECMA-262, 13.2.5 and 14.3.3), and so is an import or export specifier of one name (16.2.2 and 16.2.3); so shapes are
--- spelled out throughout.
+-- A tree without its names: its form, whatever its identifiers are. A shorthand whose symbol
+-- changes is spelled out (ECMA-262, 13.2.5 and 14.3.3), and so is an import or export specifier of
+-- one name (16.2.2 and 16.2.3); so shapes are spelled out throughout.
 use Rattle.std.specs.Prelude.{ℕ, suc, ◌+◌, ◌==◌, ◌&&◌, Bool, true, false, List, [], ◌∷◌, ◌++◌, slice_get, if◌then◌else◌}
 use Rattle.bundle_syntax.specs.declared.piece.Role.{Role}
 use Rattle.bundle_syntax.specs.declared.piece.Role.TheVariants.{Binding, Reference, Word as IsWord}
@@ -24,7 +24,10 @@ is_specifier _ = false
 -- the second name of a specifier that has but one and ends at this place
 abbrev pub second_name : List Item → ℕ → List Around → List Outline
 second_name tree place [] = []
-second_name tree place (node ∷ outer) = if is_specifier node.head && place == node.begins + 2 then Word 1 (symbol_of (slice_get tree (node.begins + 1))) ∷ [] else []
+second_name tree place (node ∷ outer) =
+    if is_specifier node.head && place == node.begins + 2
+    then Word 1 (symbol_of (slice_get tree (node.begins + 1))) ∷ []
+    else []
 
 -- a name is left out; a plain word stays
 abbrev pub shape_of_name : ℕ → List Around → Text → Role → List Outline
@@ -42,7 +45,8 @@ shape_at tree place around h.Close = second_name tree place around ++ end_marks 
 -- the shape of the elements from this place on
 abbrev pub shape_from : List Item → ℕ → List Item → List Outline
 shape_from tree place [] = []
-shape_from tree place (x ∷ rest) = shape_at tree place (path_at tree place) x ++ shape_from tree (suc place) rest
+shape_from tree place (x ∷ rest) =
+    shape_at tree place (path_at tree place) x ++ shape_from tree (suc place) rest
 
 -- the tree without its names
 abbrev pub shape : List Item → List Outline

@@ -1,4 +1,5 @@
--- Shorthands: `{ x }` in an object literal or a pattern stands for `{ x: x }` (ECMA-262, 13.2.5 and 14.3.3).
+-- Shorthands: `{ x }` in an object literal or a pattern stands for `{ x: x }` (ECMA-262, 13.2.5 and
+-- 14.3.3).
 use Rattle.std.specs.Prelude.{ℕ, ◌+◌, Bool, true, false, not, List, [], Option, Some, None, slice_get}
 use Rattle.bundle_syntax.specs.Item as h
 use Rattle.bundle_syntax.specs.Item.{Item, Head}

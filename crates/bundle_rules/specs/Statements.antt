@@ -1,6 +1,7 @@
--- The top items of a module and its own statements (ECMA-262, 16.2: Module Semantics; 16.2.3.7, what `export
--- default` declares). Imports and export lists state nothing by themselves; an exported declaration is that
--- declaration, and a default that has no name declares the name `default`.
+-- The top items of a module and its own statements (ECMA-262, 16.2: Module Semantics; 16.2.3.7,
+-- what `export default` declares). Imports and export lists state nothing by themselves; an
+-- exported declaration is that declaration, and a default that has no name declares the name
+-- `default`.
 use Rattle.std.specs.Prelude.{ℕ, suc, ◌+◌, false, List, [], ◌∷◌, ◌++◌, None, length, flat_map, codes}
 use Rattle.bundle_syntax.specs.declared.kind.ExportMetadata.{ExportMetadata}
 use Rattle.bundle_syntax.specs.declared.kind.VarDeclKind.TheVariants.{Const}
@@ -17,13 +18,15 @@ pub record TopItem : Type 0 where
 -- the nodes with their places, where the first begins at this place
 abbrev pub placed : ℕ → List (List Item) → List TopItem
 placed start [] = []
-placed start (items ∷ more) = record { start = start; items = items } ∷ placed (start + length items) more
+placed start (items ∷ more) =
+    record { start = start; items = items } ∷ placed (start + length items) more
 
 -- the top items of a module, in the order of the source
 abbrev pub top_items : List Item → List TopItem
 top_items tree = placed 1 (parts tree)
 
--- one element of a statement as it is meant: it stands in the module's list at a place, or it is written in addition
+-- one element of a statement as it is meant: it stands in the module's list at a place, or it is
+-- written in addition
 pub data Element : Type 0 where
   taken : (place : ℕ) → Item → Element
   written : Item → Element
@@ -51,7 +54,8 @@ moved_to field h.Close = h.Close
 -- the node that begins at this place, in this field
 abbrev pub taken_in_field : ℕ → ℕ → List Item → List Element
 taken_in_field field place [] = []
-taken_in_field field place (first ∷ rest) = taken place (moved_to field first) ∷ taken_from (suc place) rest
+taken_in_field field place (first ∷ rest) =
+    taken place (moved_to field first) ∷ taken_from (suc place) rest
 
 -- the name `default`, where it is declared
 abbrev pub default_binding : Element
@@ -60,8 +64,10 @@ default_binding = written (h.Ident 0 default_name 0 Binding)
 -- `const default = e;` of the expression e that begins at this place
 abbrev pub default_constant : ℕ → List Item → List Element
 default_constant place e =
-    written (h.Open 0 (h.VarDecl Const no_notes)) ∷ written (h.Open 1 h.VarDeclarator) ∷ written (h.Open 0 h.BindingIdent)
-    ∷ default_binding ∷ written h.Close ∷ (taken_in_field 1 place e ++ written h.Close ∷ written h.Close ∷ [])
+    written (h.Open 0 (h.VarDecl Const no_notes)) ∷ written (h.Open 1 h.VarDeclarator)
+    ∷ written (h.Open 0 h.BindingIdent)
+    ∷ default_binding ∷ written h.Close
+    ∷ (taken_in_field 1 place e ++ written h.Close ∷ written h.Close ∷ [])
 
 -- the head of the declaration that a default function or class is
 abbrev pub declaration_head : Head → Head
@@ -71,13 +77,16 @@ declaration_head head = head
 
 -- what follows the head of a declaration: its name, or `default` where it has none
 abbrev pub with_name : ℕ → List Item → List Element
-with_name place (h.Ident field sym ctxt role ∷ rest) = taken_from place (h.Ident field sym ctxt role ∷ rest)
-with_name place (h.Open field head ∷ rest) = default_binding ∷ taken_from place (h.Open field head ∷ rest)
+with_name place (h.Ident field sym ctxt role ∷ rest) =
+    taken_from place (h.Ident field sym ctxt role ∷ rest)
+with_name place (h.Open field head ∷ rest) =
+    default_binding ∷ taken_from place (h.Open field head ∷ rest)
 with_name place rest = taken_from place rest
 
 -- the declaration that a default function or class is, where the node begins at this place
 abbrev pub default_declaration : ℕ → List Item → List Element
-default_declaration place (h.Open field head ∷ rest) = taken place (h.Open 0 (declaration_head head)) ∷ with_name (suc place) rest
+default_declaration place (h.Open field head ∷ rest) =
+    taken place (h.Open 0 (declaration_head head)) ∷ with_name (suc place) rest
 default_declaration place node = taken_from place node
 
 -- what a top item with this head states: one statement, or none

@@ -1,5 +1,5 @@
--- What the bindings of a bundle are called before names are made apart: as in the source, or as the linker calls what
--- it adds (ECMA-262, 12.7 for what an identifier is).
+-- What the bindings of a bundle are called before names are made apart: as in the source, or as the
+-- linker calls what it adds (ECMA-262, 12.7 for what an identifier is).
 use Rattle.std.specs.Prelude.{◌≡◌, ℕ, ◌==◌, ◌&&◌, Bool, true, false, List, [], ◌∷◌, Option, Some, None, Contains, codes, bytes_eq, find, flat_map, map, length, slice_get, zero, ◌+◌, option_map, unwrap_or, if◌then◌else◌}
 use Rattle.bundle_rules.specs.Denotes.{Denoted, Bound, Global}
 use Rattle.bundle_rules.specs.Scopes.{Scope, Es, Cjs}
@@ -27,7 +27,8 @@ identifier_of x = if is_ascii_identifier x then x else codes "name"
 
 -- the first import that takes this of what passes the test
 abbrev pub importing : (Text → Bool) → Taken → List ImportEntry → Option ImportEntry
-importing asks taken entries = find (λ entry. asks entry.specifier && same_taken entry.taken taken) entries
+importing asks taken entries =
+    find (λ entry. asks entry.specifier && same_taken entry.taken taken) entries
 
 -- whether an export is `* as n` of what passes the test
 abbrev pub exports_whole : (Text → Bool) → ExportEntry → Bool
@@ -40,14 +41,18 @@ exported_name (Local name of) = name
 exported_name (Indirect name specifier taken) = name
 exported_name (Star specifier) = []
 
--- what is taken of another module is called as the first import that takes it does, else by its own name; a whole that no import takes, as the first export of it
+-- what is taken of another module is called as the first import that takes it does, else by its own
+-- name; a whole that no import takes, as the first export of it
 abbrev pub name_without_import : (Text → Bool) → Taken → List ExportEntry → Text
 name_without_import asks (Named x) entries = identifier_of x
-name_without_import asks Whole entries = identifier_of (unwrap_or (option_map exported_name (find (exports_whole asks) entries)) [])
+name_without_import asks Whole entries =
+    identifier_of (unwrap_or (option_map exported_name (find (exports_whole asks) entries)) [])
 
 -- what is taken of another module is called so
 abbrev pub taken_name : (Text → Bool) → Taken → List ImportEntry → List ExportEntry → Text
-taken_name asks taken entries others = unwrap_or (option_map (λ entry. entry.local) (importing asks taken entries)) (name_without_import asks taken others)
+taken_name asks taken entries others =
+    unwrap_or (option_map (λ entry. entry.local) (importing asks taken entries))
+    (name_without_import asks taken others)
 
 -- whether a number is there, and is n
 abbrev pub is_number : Option ℕ → ℕ → Bool
@@ -58,8 +63,10 @@ is_number (Some m) n = m == n
 abbrev pub symbol_of_target : Program → List ℕ → Target → Text
 symbol_of_target p list (Declared m x) = x
 symbol_of_target p list (Namespace m) = codes "mod"
-symbol_of_target p list (External s taken) = taken_name (bytes_eq s) taken (flat_map (imports p) list) (flat_map (exports p) list)
-symbol_of_target p list (CommonJs m c taken) = taken_name (λ s. is_number (resolves p m s) c) taken (imports p m) (exports p m)
+symbol_of_target p list (External s taken) =
+    taken_name (bytes_eq s) taken (flat_map (imports p) list) (flat_map (exports p) list)
+symbol_of_target p list (CommonJs m c taken) =
+    taken_name (λ s. is_number (resolves p m s) c) taken (imports p m) (exports p m)
 
 -- what a label is called, where the modules stand in this list
 abbrev pub symbol_of_label : Program → List ℕ → Label → Text
@@ -84,19 +91,29 @@ item_symbols b item = inner_symbols (sense_of b).view item.start (elements_of it
 
 -- the bindings inside an item are called as in the statement that it stands for, each spelled so
 abbrev pub CalledAlike : (Text → Text) → Labelled → View → TopItem → List Element → Type 0
-CalledAlike spelled b view item statement = item_symbols b item ≡ map spelled (inner_symbols view 0 statement)
+CalledAlike spelled b view item statement =
+    item_symbols b item ≡ map spelled (inner_symbols view 0 statement)
 
--- the same of the properties of an `import.meta` object, which are those of an answer of the hook that the object means
-pub record CalledAsAnswered (spelled : Text → Text) (p : Program) (hooks : Hooks) (b : Labelled) (m : ℕ) (item : TopItem) : Type 0 where
+-- the same of the properties of an `import.meta` object, which are those of an answer of the hook
+-- that the object means
+pub record CalledAsAnswered
+    (spelled : Text → Text) (p : Program) (hooks : Hooks) (b : Labelled) (m : ℕ)
+    (item : TopItem) : Type 0 where
   pub properties : List Item
   pub held : MayHold p hooks m properties
   pub marks : List Mark
   pub means : PropertiesMean properties marks
   pub object : ItemMeans b item (meta_object m marks)
-  pub alike : CalledAlike spelled b (record { tree = properties_tree properties; kind = Es; reading = BySymbol }) item (taken_from 3 properties)
+  pub alike :
+      CalledAlike spelled b
+      (record { tree = properties_tree properties; kind = Es; reading = BySymbol }) item
+      (taken_from 3 properties)
 
--- the bindings of a bundle are called right: each labelled one as its label and those inside items as in the source, each spelled so
-pub record AreCalled (spelled : Text → Text) (p : Program) (hooks : Hooks) (b : Labelled) (pairing : Pairing) : Type 0 where
+-- the bindings of a bundle are called right: each labelled one as its label and those inside items
+-- as in the source, each spelled so
+pub record AreCalled
+    (spelled : Text → Text) (p : Program) (hooks : Hooks) (b : Labelled)
+    (pairing : Pairing) : Type 0 where
   pub list : List ℕ
   pub is_list : IsList p list
   pub outer : (scope : Scope) (name : Name) (l : Label) →
@@ -108,7 +125,9 @@ pub record AreCalled (spelled : Text → Text) (p : Program) (hooks : Hooks) (b 
       CalledAlike spelled b (own_view p m Es) item statement
   pub common_js : (c : ℕ) (item : TopItem) (f : IsLoadFunction p b c item) →
       StandsFor pairing (Defines c) item →
-      AllZip (CalledAlike spelled b (own_view p c Cjs)) (placed (item.start + length f.front) (side_by_side zero f.inside)) (own_statements (tree_of p c))
+      AllZip (CalledAlike spelled b (own_view p c Cjs))
+      (placed (item.start + length f.front) (side_by_side zero f.inside))
+      (own_statements (tree_of p c))
   pub helper : (item : TopItem) →
       StandsFor pairing Helps item →
       item_symbols b item ≡ codes "fn" ∷ codes "module" ∷ []

@@ -1,5 +1,5 @@
--- What is owed by the tables of a module, by the modules that an entry reaches, and by a linker that is asked (ECMA-262,
--- 16.2.1.6.3 ResolveExport).
+-- What is owed by the tables of a module, by the modules that an entry reaches, and by a linker
+-- that is asked (ECMA-262, 16.2.1.6.3 ResolveExport).
 use Rattle.std.specs.Prelude.{◌≡◌, ◌≢◌, ℕ, ◌⊎◌, ◌↔◌, not, flat_map, Bool, true, false, IsTrue, List, [], ◌∷◌, Option, Some, None, Contains, filter}
 use Rattle.std.specs.List.Sorted.{IsStrictlyIncreasing}
 use Rattle.bundle_syntax.specs.Item.{Item}
@@ -30,14 +30,16 @@ pub data Table (A : Type 0) : Type 0 where
   Given : A → Table A
   RefusedBy : Fault → Table A
 
--- the three tables refuse the same trees, by the first fault of the tree, and otherwise give what is asked for
+-- the three tables refuse the same trees, by the first fault of the tree, and otherwise give what
+-- is asked for
 abbrev pub IsTable : {A : Type 0} → FileName → List Item → A → Table A → Type 0
 IsTable file tree right (Given found) = IsFaultless file tree × (found ≡ right)
 IsTable file tree right (RefusedBy fault) = IsFirstTreeFault file tree fault
 
 -- the table of requests, of imports, of exports with a name, and of stars, each once
 abbrev pub IsRequestTable : Settings → FileName → List Item → Table (List Text) → Type 0
-IsRequestTable settings file tree answer = IsTable file tree (requests_of settings (is_free tree) tree) answer
+IsRequestTable settings file tree answer =
+    IsTable file tree (requests_of settings (is_free tree) tree) answer
 
 -- the table of imports
 abbrev pub IsImportTable : FileName → List Item → Table (List ImportEntry) → Type 0
@@ -45,7 +47,11 @@ IsImportTable file tree answer = IsTable file tree (imports_of tree) answer
 
 -- the table of exports: those with a name, and the stars, each once
 abbrev pub IsExportTable : FileName → List Item → Table (List ExportEntry × List Text) → Type 0
-IsExportTable file tree answer = IsTable file tree (filter (λ entry. not (is_star entry)) (exports_of tree), each_once (flat_map star_of (exports_of tree))) answer
+IsExportTable file tree answer =
+    IsTable file tree (
+      filter (λ entry. not (is_star entry)) (exports_of tree),
+      each_once (flat_map star_of (exports_of tree)),
+    ) answer
 
 -- Graphs of modules.
 
@@ -56,7 +62,8 @@ pub record IsClosure (g : Modules) (entry : ℕ) (reached : List ℕ) : Type 0 w
 
 -- Linking.
 
--- what a name of a module resolves to: one target; none; two; or none, where an external that is starred may hold it
+-- what a name of a module resolves to: one target; none; two; or none, where an external that is
+-- starred may hold it
 pub data Resolution : Type 0 where
   One : Target → Resolution
   Nothing : Resolution
@@ -106,5 +113,10 @@ pub record IsFirstLinkFault (p : Program) (fault : Fault) : Type 0 where
 
 -- a check finds none exactly where none is there, and else the first
 abbrev pub IsChecked : Program → Option Fault → Type 0
-IsChecked p None = (m stage place : ℕ) (file : FileName) (f : Fault) → stage ≢ 2 → IsReached p m → ProgramFault p file m stage place f → ⊥
+IsChecked p None =
+    (m stage place : ℕ) (file : FileName) (f : Fault) →
+    stage ≢ 2 →
+    IsReached p m →
+    ProgramFault p file m stage place f →
+    ⊥
 IsChecked p (Some fault) = IsFirstLinkFault p fault

@@ -33,8 +33,10 @@ pub record IsUsedUp (file : Name) (refusal : Error) : Type 0 where
   pub is : refusal ≡ ContextsUsedUp its
   pub of : name_of its ≡ file
 
--- memory ran out; or the first name that is doubled is told; or none is, and the contexts, where they are fit, do not suffice
-pub data MayRefuse (kind : ModuleKind) (held : HeldContexts) (tree : List Item) (refusal : Error) : Type 0 where
+-- memory ran out; or the first name that is doubled is told; or none is, and the contexts, where
+-- they are fit, do not suffice
+pub data MayRefuse
+    (kind : ModuleKind) (held : HeldContexts) (tree : List Item) (refusal : Error) : Type 0 where
   no_memory : refusal ≡ OutOfMemory → MayRefuse kind held tree refusal
   doubled : (name : Text) →
       doubled_name kind tree ≡ Some name →

@@ -22,9 +22,11 @@ use Rattle.bundle_scope_denote.specs.Walked.{IsDeclared}
 use Rattle.bundle_scope_denote.specs.Steps.{scopes_of, walk_names, IsWholeWalk}
 use Rattle.bundle_scope_denote.specs.Listed.{doubled_told, place_and_symbol}
 
--- the first of these scopes and the one beside it, if a name that is declared there in this way stands there once
+-- the first of these scopes and the one beside it, if a name that is declared there in this way
+-- stands there once
 abbrev pub held_in : d.Way → List s.Scope → List s.Scope
-held_in by scopes = cond (u.stands_once by scopes) (unwrap_or (o.nearest scopes) s.Top ∷ o.group_of scopes ∷ []) []
+held_in by scopes =
+    cond (u.stands_once by scopes) (unwrap_or (o.nearest scopes) s.Top ∷ o.group_of scopes ∷ []) []
 
 -- the scopes that a declared name passes up to the one that takes it
 abbrev pub passed : d.Declared → List s.Scope
@@ -36,7 +38,8 @@ barred_by x = cond (u.is_var x.by) (passed x) (held_in x.by (o.from_taker x.by x
 
 -- the first of these numbers, of scopes that do not take a name declared in this way
 abbrev pub passed_of : List NumberedScope → Way → List ℕ → List ℕ
-passed_of scopes way numbers = take_while (λ number. not (passes (takes_by way) scopes number)) numbers
+passed_of scopes way numbers =
+    take_while (λ number. not (passes (takes_by way) scopes number)) numbers
 
 -- the numbers of the scopes that a name passes, from one on outwards
 abbrev pub passed_at : List NumberedScope → Way → ℕ → List ℕ
@@ -46,21 +49,31 @@ passed_at scopes way from =
 -- these are the numbers of what is held in the scopes from a taker on
 abbrev pub HoldsNumbered : List NumberedScope → (top : ℕ) → Way → (taker : Option ℕ) → List ℕ →
     Type 0
-HoldsNumbered scopes top way taker held = (kind : s.ModuleKind) (by : d.Way) (around : List s.Scope) → AreAround scopes (Some top) (s.outermost kind) → way ≡ way_named by → AreAround scopes taker around → AreScopesAt scopes held (held_in by around)
+HoldsNumbered scopes top way taker held =
+    (kind : s.ModuleKind) (by : d.Way) (around : List s.Scope) →
+    AreAround scopes (Some top) (s.outermost kind) →
+    way ≡ way_named by →
+    AreAround scopes taker around →
+    AreScopesAt scopes held (held_in by around)
 
 -- whether the first of these scopes is that of the parameters of a CommonJS module
 abbrev pub begins_wrapped : List s.Scope → Truth
 begins_wrapped (s.Wrapper ∷ outer) = true
 begins_wrapped _ = false
 
--- the numbers of the scopes that a declaration reaches: the one that takes its name, and those that it bars
+-- the numbers of the scopes that a declaration reaches: the one that takes its name, and those that
+-- it bars
 pub record IsReachOf (scopes : List NumberedScope) (reach : Reach) (x : d.Declared) : Type 0 where
   pub taker : numbered_scope_at scopes reach.taker ≡ Some (o.taker x)
   pub barred : AreScopesAt scopes reach.barred.items (barred_by x)
 
 -- a declaration of a whole walk reaches so far
 abbrev pub ReachesSoFar : ScopeWalk → Declaration → Reach → Type 0
-ReachesSoFar walk declaration reach = (reading : d.Reading) (kind : s.ModuleKind) (items : List Item) (x : d.Declared) → IsWholeWalk walk reading kind items → IsDeclared (scopes_of walk) (walk_names walk) declaration x → IsReachOf (scopes_of walk) reach x
+ReachesSoFar walk declaration reach =
+    (reading : d.Reading) (kind : s.ModuleKind) (items : List Item) (x : d.Declared) →
+    IsWholeWalk walk reading kind items →
+    IsDeclared (scopes_of walk) (walk_names walk) declaration x →
+    IsReachOf (scopes_of walk) reach x
 
 -- whether one of the scopes has the name among these keys
 abbrev pub has_any : List ScopeKey → (name : ℕ) → List ℕ → Truth
@@ -100,19 +113,40 @@ is_often times name = is_often_by (slice_get times name)
 
 -- the name of two declarations is declared more than once
 abbrev pub AreCounted : List Declaration → List Times → Type 0
-AreCounted declarations times = (i j : ℕ) (a b : Declaration) → i < j → slice_get declarations i ≡ Some a → slice_get declarations j ≡ Some b → a.name ≡ b.name → is_often times b.name ≡ true
+AreCounted declarations times =
+    (i j : ℕ) (a b : Declaration) →
+    i < j →
+    slice_get declarations i ≡ Some a →
+    slice_get declarations j ≡ Some b →
+    a.name ≡ b.name →
+    is_often times b.name ≡ true
 
 -- the keys tell a test of scopes and names that have no context and are declared more than once
-abbrev pub KeysTell : List NumberedScope → List d.Name → (often : ℕ → Truth) → List ScopeKey → (s.Scope → d.Name → Truth) → Type 0
-KeysTell scopes names often keys test = (n number : ℕ) (scope : s.Scope) (name : d.Name) → numbered_scope_at scopes n ≡ Some scope → slice_get names number ≡ Some name → name.ctxt ≡ None → often number ≡ true → list_any (same_key (n, number)) keys ≡ test scope name
+abbrev pub KeysTell : List NumberedScope → List d.Name → (often : ℕ → Truth) → List ScopeKey →
+    (s.Scope → d.Name → Truth) → Type 0
+KeysTell scopes names often keys test =
+    (n number : ℕ) (scope : s.Scope) (name : d.Name) →
+    numbered_scope_at scopes n ≡ Some scope →
+    slice_get names number ≡ Some name →
+    name.ctxt ≡ None →
+    often number ≡ true →
+    list_any (same_key (n, number)) keys ≡ test scope name
 
 -- what was met is these declarations
-pub record HasMet (scopes : List NumberedScope) (names : List d.Name) (often : ℕ → Truth) (before : List d.Declared) (met : Met) : Type 0 where
-  pub taken : KeysTell scopes names often met.taken.keys (λ scope name. list_any (is_taken_in scope name) before)
-  pub barred : KeysTell scopes names often met.barred.keys (λ scope name. list_any (is_barred_in scope name) before)
+pub record HasMet
+    (scopes : List NumberedScope) (names : List d.Name) (often : ℕ → Truth)
+    (before : List d.Declared) (met : Met) : Type 0 where
+  pub taken :
+      KeysTell scopes names often met.taken.keys
+      (λ scope name. list_any (is_taken_in scope name) before)
+  pub barred :
+      KeysTell scopes names often met.barred.keys
+      (λ scope name. list_any (is_barred_in scope name) before)
 
 -- the first declarations were met, and none of them is doubled
-pub record HasMetFirst (walk : ScopeWalk) (often : ℕ → Truth) (all : List d.Declared) (number : ℕ) (met : Met) : Type 0 where
+pub record HasMetFirst
+    (walk : ScopeWalk) (often : ℕ → Truth) (all : List d.Declared) (number : ℕ)
+    (met : Met) : Type 0 where
   pub before : HasMet (scopes_of walk) (walk_names walk) often (take number all) met
   pub undoubled : list_any (u.is_doubled all) (take number all) ≡ false
 
@@ -120,8 +154,13 @@ pub record HasMetFirst (walk : ScopeWalk) (often : ℕ → Truth) (all : List d.
 pub record IsDoubledTold (walk : ScopeWalk) (declaration : Declaration)
     (doubled : Doubled) : Type 0 where
   pub place : doubled.place ≡ declaration.place
-  pub symbol : option_map (λ (name : d.Name). name.sym) (slice_get (walk_names walk) declaration.name) ≡ Some doubled.name.now
+  pub symbol :
+      option_map (λ (name : d.Name). name.sym) (slice_get (walk_names walk) declaration.name)
+      ≡ Some doubled.name.now
 
 -- what is told is the first declaration that is doubled, of a list whose walk this is
 abbrev pub TellsFirstDoubled : ScopeWalk → Option Doubled → Type 0
-TellsFirstDoubled walk found = (kind : s.ModuleKind) (items : List Item) → IsWholeWalk walk d.BySymbol kind items → option_map doubled_told found ≡ option_map place_and_symbol (u.first_doubled kind items)
+TellsFirstDoubled walk found =
+    (kind : s.ModuleKind) (items : List Item) →
+    IsWholeWalk walk d.BySymbol kind items →
+    option_map doubled_told found ≡ option_map place_and_symbol (u.first_doubled kind items)

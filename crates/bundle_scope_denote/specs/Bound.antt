@@ -16,13 +16,17 @@ ScopeKey = ℕ × ℕ
 abbrev pub same_key : ScopeKey → ScopeKey → Truth
 same_key a b = a.0 == b.0 && a.1 == b.1
 
--- how names are read shows in a declaration: by symbol no context is read, and by context that of each `var` and function is
+-- how names are read shows in a declaration: by symbol no context is read, and by context that of
+-- each `var` and function is
 abbrev pub IsDeclaredAs : d.Reading → d.Declared → Type 0
 IsDeclaredAs d.BySymbol declared = declared.name.ctxt ≡ None
-IsDeclaredAs d.ByContext declared = o.joins_parameter declared.by ≡ true → is_some declared.name.ctxt ≡ true
+IsDeclaredAs d.ByContext declared =
+    o.joins_parameter declared.by ≡ true → is_some declared.name.ctxt ≡ true
 
 -- a key is that of the binding to which a declaration belongs
-pub record IsHome (scopes : List NumberedScope) (names : List d.Name) (all : List d.Declared) (key : ScopeKey) (declared : d.Declared) : Type 0 where
+pub record IsHome
+    (scopes : List NumberedScope) (names : List d.Name) (all : List d.Declared) (key : ScopeKey)
+    (declared : d.Declared) : Type 0 where
   pub scope : numbered_scope_at scopes key.0 ≡ Some (o.home_of all declared)
   pub name : slice_get names key.1 ≡ Some declared.name
 
@@ -43,7 +47,8 @@ adds d.ByContext name = false
 -- whether a declaration binds the name in the scope
 abbrev pub declares_in : d.Reading → List d.Declared → s.Scope → d.Name → d.Declared → Truth
 declares_in d.BySymbol all scope name declared = o.is_declared_in all scope name declared
-declares_in d.ByContext all scope name declared = e.has_identifier declared && o.is_declared_in all scope name declared
+declares_in d.ByContext all scope name declared =
+    e.has_identifier declared && o.is_declared_in all scope name declared
 
 -- whether the scope binds the name: by context, for an identifier
 abbrev pub is_name_bound : d.Reading → List d.Declared → s.Scope → d.Name → Truth
@@ -56,7 +61,8 @@ has_parameters s.Top = true
 has_parameters (s.Inner s.FunctionBody begins) = true
 has_parameters _ = false
 
--- whether a scope keeps its names apart from those of the scope around it: a body with its parameters, and the block of a catch
+-- whether a scope keeps its names apart from those of the scope around it: a body with its
+-- parameters, and the block of a catch
 abbrev pub joins_outer : s.Scope → Truth
 joins_outer (s.Inner s.CatchBlock begins) = true
 joins_outer scope = has_parameters scope
@@ -73,7 +79,8 @@ beside_or is_parameter body (Some beside) = cond (is_parameter beside) beside bo
 -- the number of the scope to which a name belongs that this scope takes
 abbrev pub home_from : List NumberedScope → (top : ℕ) → (joins : Truth) → (ℕ → Truth) → Option ℕ → ℕ
 home_from scopes top joins is_parameter None = top
-home_from scopes top joins is_parameter (Some taker) = cond joins (beside_or is_parameter taker (beside_at scopes taker)) taker
+home_from scopes top joins is_parameter (Some taker) =
+    cond joins (beside_or is_parameter taker (beside_at scopes taker)) taker
 
 -- whether a scope is that of the parameters of a function, an arrow or a CommonJS module
 abbrev pub holds_parameters : s.Scope → Truth
@@ -84,7 +91,9 @@ abbrev pub is_parameter_key : List NumberedScope → ScopeKey → ScopeKey → T
 is_parameter_key scopes key taken = passes holds_parameters scopes taken.0 && same_key key taken
 
 -- a key is that of the scope that takes a declared name
-pub record IsKeyTaken (scopes : List NumberedScope) (names : List d.Name) (key : ScopeKey) (declared : d.Declared) : Type 0 where
+pub record IsKeyTaken
+    (scopes : List NumberedScope) (names : List d.Name) (key : ScopeKey)
+    (declared : d.Declared) : Type 0 where
   pub scope : numbered_scope_at scopes key.0 ≡ Some (o.taker declared)
   pub name : slice_get names key.1 ≡ Some declared.name
 
@@ -103,20 +112,33 @@ is_written_name symbol (Some name) = is_some name.ctxt && bytes_eq name.sym symb
 
 -- whether a key is of the scope with this number and of such a name
 abbrev pub is_written_key : List d.Name → ℕ → List ℕ → ScopeKey → Truth
-is_written_key names scope symbol key = scope == key.0 && is_written_name symbol (slice_get names key.1)
+is_written_key names scope symbol key =
+    scope == key.0 && is_written_name symbol (slice_get names key.1)
 
--- whether the scope with a number has the name with a number among these keys, or is that of a function which binds it
+-- whether the scope with a number has the name with a number among these keys, or is that of a
+-- function which binds it
 abbrev pub binds_at : List NumberedScope → List ScopeKey → (adds : Truth) → ℕ → ℕ → Truth
-binds_at scopes keys adds name scope = list_any (same_key (scope, name)) keys || (adds && passes o.is_function scopes scope)
+binds_at scopes keys adds name scope =
+    list_any (same_key (scope, name)) keys || (adds && passes o.is_function scopes scope)
 
 -- the keys tell what each scope binds
-abbrev pub TellsBound : d.Reading → List NumberedScope → List d.Name → List d.Declared → List ScopeKey → Type 0
-TellsBound reading scopes names all keys = (n number : ℕ) (scope : s.Scope) (name : d.Name) → numbered_scope_at scopes n ≡ Some scope → slice_get names number ≡ Some name → reads reading name ≡ true → binds_at scopes keys (adds reading name) number n ≡ is_name_bound reading all scope name
+abbrev pub TellsBound :
+    d.Reading → List NumberedScope → List d.Name → List d.Declared → List ScopeKey → Type 0
+TellsBound reading scopes names all keys =
+    (n number : ℕ) (scope : s.Scope) (name : d.Name) →
+    numbered_scope_at scopes n ≡ Some scope →
+    slice_get names number ≡ Some name →
+    reads reading name ≡ true →
+    binds_at scopes keys (adds reading name) number n ≡ is_name_bound reading all scope name
 
 -- and these what is implied there
 abbrev pub TellsImplied : List NumberedScope → List d.Name → List d.Declared → List ScopeKey →
     Type 0
-TellsImplied scopes names all implied = (n number : ℕ) (scope : s.Scope) (name : d.Name) → numbered_scope_at scopes n ≡ Some scope → slice_get names number ≡ Some (alone name.sym) → binds_at scopes implied (o.is_arguments name.sym) number n ≡ e.is_implied_in all scope name
+TellsImplied scopes names all implied =
+    (n number : ℕ) (scope : s.Scope) (name : d.Name) →
+    numbered_scope_at scopes n ≡ Some scope →
+    slice_get names number ≡ Some (alone name.sym) →
+    binds_at scopes implied (o.is_arguments name.sym) number n ≡ e.is_implied_in all scope name
 
 -- the number of a binding says what is denoted
 abbrev pub SaysDenoted : List NumberedScope → List d.Name → List ScopeKey → Option ℕ → e.Denoted →
@@ -124,7 +146,9 @@ abbrev pub SaysDenoted : List NumberedScope → List d.Name → List ScopeKey �
 SaysDenoted scopes names keys None (e.Global sym) = Unit {0}
 SaysDenoted scopes names keys None (e.Bound scope name) = ⊥
 SaysDenoted scopes names keys (Some number) (e.Global sym) = ⊥
-SaysDenoted scopes names keys (Some number) (e.Bound scope name) = (key : ScopeKey) × (slice_get keys number ≡ Some key) × (numbered_scope_at scopes key.0 ≡ Some scope) × (slice_get names key.1 ≡ Some name)
+SaysDenoted scopes names keys (Some number) (e.Bound scope name) =
+    (key : ScopeKey) × (slice_get keys number ≡ Some key)
+    × (numbered_scope_at scopes key.0 ≡ Some scope) × (slice_get names key.1 ≡ Some name)
 
 -- the number of a name in a scope that was found
 abbrev pub NumberOf : List ScopeKey → (name : ℕ) → Option ℕ → Option ℕ → Type 0

@@ -20,7 +20,10 @@ top_number s.Cjs = 1
 
 -- the scope with this number is the only one that is the top
 abbrev pub IsOnlyTopOf : List NumberedScope → ℕ → Type 0
-IsOnlyTopOf scopes top = (number : ℕ) (scope : s.Scope) → numbered_scope_at scopes number ≡ Some scope → (scope ≡ s.Top) ↔ (number ≡ top)
+IsOnlyTopOf scopes top =
+    (number : ℕ) (scope : s.Scope) →
+    numbered_scope_at scopes number ≡ Some scope →
+    (scope ≡ s.Top) ↔ (number ≡ top)
 
 -- whether the scope with a number passes a test
 abbrev pub passes : (s.Scope → Truth) → List NumberedScope → ℕ → Truth

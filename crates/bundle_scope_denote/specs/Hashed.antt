@@ -19,14 +19,19 @@ both true true e = (refl, refl)
 both true false e = cc
 both false b e = cc
 
-contexts-alike : (a b : Option ℕ) → option_eq nat_eq a b ≡ true → hashed_context a ≡ hashed_context b
+contexts-alike : (a b : Option ℕ) →
+    option_eq nat_eq a b ≡ true →
+    hashed_context a ≡ hashed_context b
 contexts-alike None None e = refl
 contexts-alike None (Some b) e = cc
 contexts-alike (Some a) None e = cc
 contexts-alike (Some a) (Some b) e = ap fed.u64 (eqb-true a b e)
 
 -- of names that are the same, the same is hashed
-pub hashed-alike : (a b : NameKey) → (bytes_eq a.sym.now b.sym.now && option_eq nat_eq a.ctxt b.ctxt) ≡ true → hashed a ≡ hashed b
+pub hashed-alike : (a b : NameKey) →
+    (bytes_eq a.sym.now b.sym.now && option_eq nat_eq a.ctxt b.ctxt) ≡ true →
+    hashed a ≡ hashed b
 hashed-alike a b e =
     let same = both (bytes_eq a.sym.now b.sym.now) (option_eq nat_eq a.ctxt b.ctxt) e in
-    ap₂ (λ (context : List (List ℕ)) (sym : List ℕ). context ++ sym ∷ []) (contexts-alike a.ctxt b.ctxt same.1) ((bytes_eq-Decides a.sym.now b.sym.now).0 same.0)
+    ap₂ (λ (context : List (List ℕ)) (sym : List ℕ). context ++ sym ∷ [])
+    (contexts-alike a.ctxt b.ctxt same.1) ((bytes_eq-Decides a.sym.now b.sym.now).0 same.0)

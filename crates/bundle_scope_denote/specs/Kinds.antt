@@ -1,5 +1,5 @@
--- What the kinds of scopes and the ways of the code stand for, and what a node means for the names in it, by what the code
--- knows of the nodes around it.
+-- What the kinds of scopes and the ways of the code stand for, and what a node means for the names
+-- in it, by what the code knows of the nodes around it.
 use Rattle.std.specs.Prelude.{ℕ, ◌==◌, Bool as Truth, true, false, cond, Option, Some, None}
 use Rattle.bundle_syntax.specs.declared.kind.VarDeclKind.{VarDeclKind}
 use Rattle.bundle_syntax.specs.declared.kind.VarDeclKind.TheVariants as v
@@ -122,7 +122,8 @@ leaves_first_out h.SetterProp = true
 leaves_first_out h.SwitchStmt = true
 leaves_first_out _ = false
 
--- whether such a node makes no scope and says nothing of what stands in it, but for the nodes of patterns how it is declared by what stands around
+-- whether such a node makes no scope and says nothing of what stands in it, but for the nodes of
+-- patterns how it is declared by what stands around
 abbrev pub is_quiet : Head → Truth
 is_quiet h.ImportNamedSpecifier = false
 is_quiet h.ImportDefaultSpecifier = false
@@ -176,7 +177,8 @@ abbrev pub is_var_by : Way → Truth
 is_var_by w.Var = true
 is_var_by _ = false
 
--- whether a name that is declared in this way is the parameter of that name, where the body's function has one
+-- whether a name that is declared in this way is the parameter of that name, where the body's
+-- function has one
 abbrev pub joins_by : Way → Truth
 joins_by w.Var = true
 joins_by w.Function = true

@@ -1,4 +1,5 @@
--- How numbers are hashed: each is folded into what stands before, by one product of 128 bits, and at first stands what the salt of the list makes.
+-- How numbers are hashed: each is folded into what stands before, by one product of 128 bits, and
+-- at first stands what the salt of the list makes.
 use Rattle.std.specs.Prelude.{ℕ, ◌*◌, ◌/◌, ◌^◌, ◌-◌, ◌==◌, cond, List, length, bit_and, bit_xor}
 use Rattle.std.specs.List.{fold}
 use Rattle.std.specs.Int.{w64, from_le_bytes}
@@ -17,7 +18,8 @@ mix mixer number = record { state = folded (bit_xor mixer.state number) 0x9e3779
 
 -- eight bytes are one number, and of any other bytes each is one
 abbrev pub mix_bytes : Mixer → List ℕ → Mixer
-mix_bytes mixer bytes = cond (length bytes == 8) (mix mixer (from_le_bytes w64 bytes)) (fold mix mixer bytes)
+mix_bytes mixer bytes =
+    cond (length bytes == 8) (mix mixer (from_le_bytes w64 bytes)) (fold mix mixer bytes)
 
 -- hashers begin with what the salt's hashers make of nothing more
 abbrev pub mixed_by : Salt → Mixed

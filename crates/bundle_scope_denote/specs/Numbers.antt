@@ -25,7 +25,9 @@ abbrev pub AreAround : List NumberedScope → Option ℕ → List s.Scope → Ty
 AreAround scopes None [] = Unit {0}
 AreAround scopes None (scope ∷ outer) = ⊥
 AreAround scopes (Some number) [] = ⊥
-AreAround scopes (Some number) (scope ∷ outer) = (x : NumberedScope) × (slice_get scopes number ≡ Some x) × (x.scope ≡ scope) × AreAround scopes x.outer outer
+AreAround scopes (Some number) (scope ∷ outer) =
+    (x : NumberedScope) × (slice_get scopes number ≡ Some x) × (x.scope ≡ scope)
+    × AreAround scopes x.outer outer
 
 -- a name
 abbrev pub name_as : NameKey → d.Name
@@ -33,4 +35,5 @@ name_as name = record { sym = name.sym.now; ctxt = name.ctxt }
 
 -- what has a number in the one list has it in the other
 abbrev pub KeepsNumbers : {X : Type 0} → List X → List X → Type 0
-KeepsNumbers {X} old new = (number : ℕ) (x : X) → slice_get old number ≡ Some x → slice_get new number ≡ Some x
+KeepsNumbers {X} old new =
+    (number : ℕ) (x : X) → slice_get old number ≡ Some x → slice_get new number ≡ Some x

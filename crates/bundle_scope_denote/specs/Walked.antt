@@ -41,7 +41,9 @@ pub record InheritsOpen (head : h.Head) (inner : Open) : Type 0 where
   pub way : cond (d.is_pattern head) inner.way None ≡ inner.way
 
 -- what is known of the innermost node says what the path means for what stands in it
-pub record IsInnermost (scopes : List NumberedScope) (kind : s.ModuleKind) (inner : Open) (path : List p.Around) : Type 0 where
+pub record IsInnermost
+    (scopes : List NumberedScope) (kind : s.ModuleKind) (inner : Open)
+    (path : List p.Around) : Type 0 where
   pub way : (field : ℕ) → inner.way ≡ option_map way_named (d.way_of (p.in_field field path))
   pub variable : (field : ℕ) →
       inner.variable ≡ option_map way_named (d.way_of_declarator (p.in_field field path))
@@ -55,10 +57,13 @@ pub record IsInnermost (scopes : List NumberedScope) (kind : s.ModuleKind) (inne
 abbrev pub AreOpenNodes : List NumberedScope → s.ModuleKind → List Open → List p.Around → Type 0
 AreOpenNodes scopes kind [] path = ⊥
 AreOpenNodes scopes kind (inner ∷ outer) [] = IsInnermost scopes kind inner [] × (outer ≡ [])
-AreOpenNodes scopes kind (inner ∷ outer) (node ∷ path) = IsInnermost scopes kind inner (node ∷ path) × AreOpenNodes scopes kind outer path
+AreOpenNodes scopes kind (inner ∷ outer) (node ∷ path) =
+    IsInnermost scopes kind inner (node ∷ path) × AreOpenNodes scopes kind outer path
 
 -- a declaration of the code is that of the definitions
-pub record IsDeclared (scopes : List NumberedScope) (names : List d.Name) (declaration : Declaration) (declared : d.Declared) : Type 0 where
+pub record IsDeclared
+    (scopes : List NumberedScope) (names : List d.Name) (declaration : Declaration)
+    (declared : d.Declared) : Type 0 where
   pub place : declaration.place ≡ declared.place
   pub name : slice_get names declaration.name ≡ Some declared.name
   pub by : declaration.way ≡ way_named declared.by
@@ -70,7 +75,9 @@ at_number all None = None
 at_number all (Some number) = slice_get all number
 
 -- an occurrence of the code is that of the definitions
-pub record IsSeen (scopes : List NumberedScope) (names : List d.Name) (reading : d.Reading) (kind : s.ModuleKind) (all : List d.Declared) (seen : NameOccurrence) (occurrence : p.Occurrence) : Type 0 where
+pub record IsSeen
+    (scopes : List NumberedScope) (names : List d.Name) (reading : d.Reading) (kind : s.ModuleKind)
+    (all : List d.Declared) (seen : NameOccurrence) (occurrence : p.Occurrence) : Type 0 where
   pub place : seen.place ≡ occurrence.place
   pub name : slice_get names seen.name ≡ Some (d.name_of reading occurrence.sym occurrence.ctxt)
   pub around : AreAround scopes (Some seen.scope) (s.scopes_around kind occurrence.path)
@@ -78,19 +85,31 @@ pub record IsSeen (scopes : List NumberedScope) (names : List d.Name) (reading :
   pub declares : is_some seen.declaration ≡ is_some (d.declaration_of reading kind occurrence)
 
 -- the declarations before a place are these
-pub record AreDeclaredTo (scopes : List NumberedScope) (names : List d.Name) (reading : d.Reading) (kind : s.ModuleKind) (items : List Item) (place : ℕ) (declarations : List Declaration) : Type 0 where
+pub record AreDeclaredTo
+    (scopes : List NumberedScope) (names : List d.Name) (reading : d.Reading) (kind : s.ModuleKind)
+    (items : List Item) (place : ℕ) (declarations : List Declaration) : Type 0 where
   pub before : List d.Declared
   pub each : AllZip (IsDeclared scopes names) declarations before
-  pub rest : before ++ d.declared_from reading kind (p.spot_before items place) (drop place items) ≡ d.declared reading kind items
+  pub rest :
+      before ++ d.declared_from reading kind (p.spot_before items place) (drop place items)
+      ≡ d.declared reading kind items
 
 -- the occurrences before a place are these
-pub record AreSeenTo (scopes : List NumberedScope) (names : List d.Name) (reading : d.Reading) (kind : s.ModuleKind) (items : List Item) (place : ℕ) (occurrences : List NameOccurrence) : Type 0 where
+pub record AreSeenTo
+    (scopes : List NumberedScope) (names : List d.Name) (reading : d.Reading) (kind : s.ModuleKind)
+    (items : List Item) (place : ℕ) (occurrences : List NameOccurrence) : Type 0 where
   pub before : List p.Occurrence
-  pub each : AllZip (IsSeen scopes names reading kind (d.declared reading kind items)) occurrences before
-  pub rest : before ++ p.occurrences_from (p.spot_before items place) (drop place items) ≡ p.occurrences items
+  pub each :
+      AllZip (IsSeen scopes names reading kind (d.declared reading kind items)) occurrences before
+  pub rest :
+      before ++ p.occurrences_from (p.spot_before items place) (drop place items)
+      ≡ p.occurrences items
 
 -- what was met before a place
-pub record IsMetBefore (reading : d.Reading) (kind : s.ModuleKind) (items : List Item) (place : ℕ) (scopes : List NumberedScope) (names : List d.Name) (declarations : List Declaration) (occurrences : List NameOccurrence) (nodes_open : List Open) (top : ℕ) : Type 0 where
+pub record IsMetBefore
+    (reading : d.Reading) (kind : s.ModuleKind) (items : List Item) (place : ℕ)
+    (scopes : List NumberedScope) (names : List d.Name) (declarations : List Declaration)
+    (occurrences : List NameOccurrence) (nodes_open : List Open) (top : ℕ) : Type 0 where
   pub stands : (p.spot_before items place).place ≡ place
   pub nodes : AreOpenNodes scopes kind nodes_open (p.spot_before items place).path
   pub outermost : AreAround scopes (Some top) (s.outermost kind)
@@ -98,15 +117,19 @@ pub record IsMetBefore (reading : d.Reading) (kind : s.ModuleKind) (items : List
   pub seen : AreSeenTo scopes names reading kind items place occurrences
 
 -- a name for which no identifier stands is declared
-pub record IsDeclaredAlone (names : List d.Name) (place top : ℕ) (way : Way) (sym : List ℕ) (declaration : Declaration) : Type 0 where
+pub record IsDeclaredAlone
+    (names : List d.Name) (place top : ℕ) (way : Way) (sym : List ℕ)
+    (declaration : Declaration) : Type 0 where
   pub stands : declaration.place ≡ place
   pub named : slice_get names declaration.name ≡ Some (record { sym = sym; ctxt = None })
   pub by : declaration.way ≡ way
   pub around : declaration.scope ≡ top
 
 -- the `default` of a nameless export is declared where there is one
-abbrev pub IsDefault : List d.Name → (place top : ℕ) → (is_nameless : Truth) → Option Declaration → Type 0
-IsDefault names place top true (Some declaration) = IsDeclaredAlone names place top w.Default (codes "default") declaration
+abbrev pub IsDefault :
+    List d.Name → (place top : ℕ) → (is_nameless : Truth) → Option Declaration → Type 0
+IsDefault names place top true (Some declaration) =
+    IsDeclaredAlone names place top w.Default (codes "default") declaration
 IsDefault names place top true None = ⊥
 IsDefault names place top false (Some declaration) = ⊥
 IsDefault names place top false None = Unit {0}
@@ -123,7 +146,8 @@ is_identifier_by _ = false
 -- whether a default export without a name begins with the first of three items
 abbrev pub is_nameless_by : Option Item → Option Item → Option Item → Truth
 is_nameless_by (Some (h.Open field h.ExportDefaultExpr)) second third = true
-is_nameless_by (Some (h.Open field h.ExportDefaultDecl)) second third = not (begins_node_by second && is_identifier_by third)
+is_nameless_by (Some (h.Open field h.ExportDefaultDecl)) second third =
+    not (begins_node_by second && is_identifier_by third)
 is_nameless_by _ second third = false
 
 -- whether a default export without a name begins with the first of these items
@@ -140,11 +164,14 @@ abbrev pub occurs_as : Role → Truth
 occurs_as o.Word = false
 occurs_as _ = true
 
--- the tables before a place: the scopes are in order, their nodes begin before the place, and each name is there once
+-- the tables before a place: the scopes are in order, their nodes begin before the place, and each
+-- name is there once
 pub record AreTablesTidy (scopes : List NumberedScope) (names : List d.Name)
     (place : ℕ) : Type 0 where
   pub order : AreInOrder scopes
-  pub before : (i : ℕ) (x : NumberedScope) → slice_get scopes i ≡ Some x → s.scope_order x.scope < place + 2
+  pub before : (i : ℕ) (x : NumberedScope) →
+      slice_get scopes i ≡ Some x →
+      s.scope_order x.scope < place + 2
   pub once : IsOnce names
 
 -- each name is still there once

@@ -35,7 +35,8 @@ pub fn denotations<'a>(
     kind: ModuleKind,
     reading: Reading,
 ) -> Result<Denotations<'a>, AllocError>
-    ensures { IfOk result (IsDenotationTable (reading_as reading) (kind_as kind) (map item_of pieces.now)) }
+    ensures { IfOk result
+        (IsDenotationTable (reading_as reading) (kind_as kind) (map item_of pieces.now)) }
 {
     let mut walk = ScopeWalk::new(alloc, kind, reading, salt_of(pieces));
     let found = found_along(alloc, &mut walk, pieces)?;
@@ -312,7 +313,8 @@ fn nearest(scopes: &[Scope], keys: &Keys, adds: bool, name: usize, from: usize) 
 
 // Whether a scope has the name with a number among these keys, or is that of a function which binds it.
 fn binds_at(scopes: &[Scope], keys: &Keys, adds: bool, name: usize, scope: usize) -> bool
-    ensures { result ≡ bound.binds_at (map numbered_scope scopes.now) keys.now.keys adds name scope }
+    ensures { result
+        ≡ bound.binds_at (map numbered_scope scopes.now) keys.now.keys adds name scope }
 {
     if keys.contains(&(scope, name)) {
         return true;

@@ -199,7 +199,8 @@ fn held_by(
     way: Way,
     taker: Option<usize>,
 ) -> Result<Vec<usize>, AllocError>
-    ensures { IfOk result (λ held. HoldsNumbered (map numbered_scope scopes.now) top way taker held.items) }
+    ensures { IfOk result (λ held.
+        HoldsNumbered (map numbered_scope scopes.now) top way taker held.items) }
 {
     let mut held = Vec::new(alloc);
     if !stands_once(scopes, way, taker) {
@@ -263,7 +264,8 @@ fn group_of(scopes: &[Scope], top: usize, taker: Option<usize>) -> usize
     ensures { (around : List Scopes.Scope) (kind : Scopes.ModuleKind) →
         AreAround (map numbered_scope scopes.now) (Some top) (outermost kind) →
         AreAround (map numbered_scope scopes.now) taker around →
-        chains.numbered_scope_at (map numbered_scope scopes.now) result ≡ Some (homes.group_of around) }
+        chains.numbered_scope_at (map numbered_scope scopes.now) result
+        ≡ Some (homes.group_of around) }
 {
     match taker {
         None => top,
@@ -275,7 +277,8 @@ fn group_of(scopes: &[Scope], top: usize, taker: Option<usize>) -> usize
 fn group_at(scopes: &[Scope], number: usize) -> usize
     ensures { (around : List Scopes.Scope) →
         AreAround (map numbered_scope scopes.now) (Some number) around →
-        chains.numbered_scope_at (map numbered_scope scopes.now) result ≡ Some (homes.group_of around) }
+        chains.numbered_scope_at (map numbered_scope scopes.now) result
+        ≡ Some (homes.group_of around) }
 {
     match scope_at(scopes, number) {
         Some(scope) if joins_outer(scope.kind) => scope.outer.unwrap_or(number),

@@ -186,7 +186,8 @@ fn home_of<'a>(
     alone: Option<usize>,
 ) -> usize
     ensures { result
-        ≡ home_from (map numbered_scope walk.now.scopes.items) walk.now.top (joins_by declaration.way)
+        ≡ home_from (map numbered_scope walk.now.scopes.items) walk.now.top
+        (joins_by declaration.way)
         (has_parameter parameters.now.keys declaration.name alone)
         (nearest_at (map numbered_scope walk.now.scopes.items)
         (passes (takes_by declaration.way) (map numbered_scope walk.now.scopes.items))
@@ -224,7 +225,8 @@ fn is_parameter(parameters: &Keys, scope: usize, name: usize, alone: Option<usiz
 /// The number of the nearest scope, from one on outwards, that takes a name declared in this way.
 pub(crate) fn taker_of(scopes: &[Scope], way: Way, from: usize) -> Option<usize>
     ensures { result
-        ≡ nearest_at (map numbered_scope scopes.now) (passes (takes_by way) (map numbered_scope scopes.now))
+        ≡ nearest_at (map numbered_scope scopes.now)
+        (passes (takes_by way) (map numbered_scope scopes.now))
         from }
 {
     let mut at = Some(from);

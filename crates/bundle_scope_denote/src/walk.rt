@@ -530,7 +530,8 @@ pub(crate) fn number_of<'a>(
     names: &mut IndexSet<NameKey<'a>, Mixed>,
     name: NameKey<'a>,
 ) -> Result<usize, AllocError>
-    ensures keeps { OnOk result (KeepsNumbers (map name_as names.old.keys) (map name_as names.new.keys)) }
+    ensures keeps { OnOk result
+        (KeepsNumbers (map name_as names.old.keys) (map name_as names.new.keys)) }
     ensures once { OnOk result
         (StaysOnce (map name_as names.old.keys) (map name_as names.new.keys)) }
     ensures number { IfOk result (λ number.
@@ -548,7 +549,8 @@ fn alone<'a>(
     place: usize,
     scope: usize,
 ) -> Result<Declaration, AllocError>
-    ensures keeps { OnOk result (KeepsNumbers (map name_as names.old.keys) (map name_as names.new.keys)) }
+    ensures keeps { OnOk result
+        (KeepsNumbers (map name_as names.old.keys) (map name_as names.new.keys)) }
     ensures once { OnOk result
         (StaysOnce (map name_as names.old.keys) (map name_as names.new.keys)) }
     ensures declaration { IfOk result
@@ -570,7 +572,8 @@ fn default_at<'a>(
     place: usize,
     top: usize,
 ) -> Result<Option<Declaration>, AllocError>
-    ensures keeps { OnOk result (KeepsNumbers (map name_as names.old.keys) (map name_as names.new.keys)) }
+    ensures keeps { OnOk result
+        (KeepsNumbers (map name_as names.old.keys) (map name_as names.new.keys)) }
     ensures once { OnOk result
         (StaysOnce (map name_as names.old.keys) (map name_as names.new.keys)) }
     ensures declaration { IfOk result
@@ -663,7 +666,8 @@ fn push_scope(scopes: &mut Vec<Scope>, made: Option<Scope>) -> Result<Option<usi
         ≡ map numbered_scope scopes.old.items ++ option_to_list (option_map numbered_scope made)) }
     ensures number { IfOk result (λ number.
         number
-        ≡ option_map (λ _. length (map numbered_scope scopes.old.items)) (option_map numbered_scope made)) }
+        ≡ option_map (λ _. length (map numbered_scope scopes.old.items))
+        (option_map numbered_scope made)) }
 {
     let Some(made) = made else {
         return Ok(None);

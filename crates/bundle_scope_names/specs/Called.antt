@@ -28,11 +28,13 @@ keyword_text sym = if is_keyword sym then Some (codes "__" ++ sym) else None
 -- what an identifier becomes that denotes this binding, or a global
 abbrev pub called_ident : Names → Ident → Option ℕ → Ident
 called_ident names ident None = ident
-called_ident names ident (Some binding) = (unwrap_or (binding_text names binding) ident.0, unwrap_or (context_of names binding) ident.1)
+called_ident names ident (Some binding) =
+    (unwrap_or (binding_text names binding) ident.0, unwrap_or (context_of names binding) ident.1)
 
 -- what identifiers become that denote these in turn
 abbrev pub called_in : Names → List Ident → List (Option ℕ) → List Ident
-called_in names (ident ∷ idents) (binding ∷ bindings) = called_ident names ident binding ∷ called_in names idents bindings
+called_in names (ident ∷ idents) (binding ∷ bindings) =
+    called_ident names ident binding ∷ called_in names idents bindings
 called_in names [] bindings = []
 called_in names idents [] = []
 
@@ -43,4 +45,5 @@ in_context Clear ident = (ident.0, 0)
 
 -- the changes of identifiers that denote these in turn, where contexts stay or are 0
 abbrev pub name_changes : Names → ContextRule → List Ident → List (Option ℕ) → List Change
-name_changes names contexts idents bindings = changes_to idents (map (in_context contexts) (called_in names idents bindings))
+name_changes names contexts idents bindings =
+    changes_to idents (map (in_context contexts) (called_in names idents bindings))

@@ -11,7 +11,8 @@ use Rattle.bundle_scope_names.specs.Called.{called_ident, in_context}
 -- the change of an identifier, if it denotes something
 abbrev pub change_next : Names → ContextRule → Ident → Option (Option ℕ) → List Change
 change_next names contexts ident None = []
-change_next names contexts ident (Some binding) = change_to ident (in_context contexts (called_ident names ident binding)) ∷ []
+change_next names contexts ident (Some binding) =
+    change_to ident (in_context contexts (called_ident names ident binding)) ∷ []
 
 -- the identifier of an element, if it binds or refers
 abbrev pub idents_as : Item → List Ident

@@ -38,15 +38,20 @@ abbrev pub IsFresh : List Item → Option ℕ → Type 0
 IsFresh items None = ⊥
 IsFresh items (Some ctxt) = (2 ≤ ctxt) × (list_any (has_context ctxt) items ≡ false)
 
--- the new context of a binding with this new text and this context: a fresh one exactly where it has to change
+-- the new context of a binding with this new text and this context: a fresh one exactly where it
+-- has to change
 abbrev pub IsContextFor : List Item → Option Text → (old new : Option ℕ) → Type 0
-IsContextFor items text old new = MatchBool (collides items text old) (IsFresh items new) (new ≡ None)
+IsContextFor items text old new =
+    MatchBool (collides items text old) (IsFresh items new) (new ≡ None)
 
 abbrev pub ctxt_of : List Binding → ℕ → Option ℕ
-ctxt_of bindings number = option_and_then (λ (binding : Binding). binding.ctxt) (slice_get bindings number)
+ctxt_of bindings number =
+    option_and_then (λ (binding : Binding). binding.ctxt) (slice_get bindings number)
 
 -- the new contexts of bindings with these new texts: no two new ones are the same
-pub record AreContexts (items : List Item) (bindings : List Binding) (texts : List (Option Text)) (contexts : List (Option ℕ)) : Type 0 where
+pub record AreContexts
+    (items : List Item) (bindings : List Binding) (texts : List (Option Text))
+    (contexts : List (Option ℕ)) : Type 0 where
   pub len : length contexts ≡ length texts
   pub each : (number : ℕ) →
       number < length texts →
@@ -59,16 +64,19 @@ has_symbol_at ctxt text names = list_any (λ name. ctxt == name.0 && bytes_eq te
 
 -- which names and which contexts a list has
 pub record KnowsNames (items : List Item) (taken : TakenNames) : Type 0 where
-  pub names : (ctxt : ℕ) (text : Text) → has_symbol_at ctxt text taken.names.keys ≡ list_any (has_occurrence text ctxt) items
+  pub names : (ctxt : ℕ) (text : Text) →
+      has_symbol_at ctxt text taken.names.keys ≡ list_any (has_occurrence text ctxt) items
   pub contexts : (ctxt : ℕ) →
       list_any (λ other. ctxt == other) taken.contexts.keys ≡ list_any (has_context ctxt) items
 
 -- those of an element are added
 pub record AddsNames (item : Item) (old new : TakenNames) : Type 0 where
   pub names : (ctxt : ℕ) (text : Text) →
-      has_symbol_at ctxt text new.names.keys ≡ (has_symbol_at ctxt text old.names.keys || has_occurrence text ctxt item)
+      has_symbol_at ctxt text new.names.keys
+      ≡ (has_symbol_at ctxt text old.names.keys || has_occurrence text ctxt item)
   pub contexts : (ctxt : ℕ) →
-      list_any (λ other. ctxt == other) new.contexts.keys ≡ (list_any (λ other. ctxt == other) old.contexts.keys || has_context ctxt item)
+      list_any (λ other. ctxt == other) new.contexts.keys
+      ≡ (list_any (λ other. ctxt == other) old.contexts.keys || has_context ctxt item)
   pub next : new.next ≡ old.next
 
 -- a context is taken, and later ones are higher

@@ -52,13 +52,21 @@ marks_kept hygiene = marked hygiene.symbols.keys hygiene.kept.keys
 
 -- what is marked in a scope is marked in those around it
 abbrev pub IsClosed : List NumberedScope → HygieneMarks → Type 0
-IsClosed scopes marks = (scope around : ℕ) (text : Text) → is_marked_in scope text marks ≡ true → is_around scopes scope around ≡ true → is_marked_in around text marks ≡ true
+IsClosed scopes marks =
+    (scope around : ℕ) (text : Text) →
+    is_marked_in scope text marks ≡ true →
+    is_around scopes scope around ≡ true →
+    is_marked_in around text marks ≡ true
 
 -- the symbol was marked in these scopes and in those around them
-pub record Marks (scopes : List NumberedScope) (uses : List ℕ) (text : Text) (old new : HygieneMarks) : Type 0 where
+pub record Marks
+    (scopes : List NumberedScope) (uses : List ℕ) (text : Text)
+    (old new : HygieneMarks) : Type 0 where
   pub closed : IsClosed scopes new
   pub marks : (scope : ℕ) (other : Text) →
-      is_marked_in scope other new ≡ (is_marked_in scope other old || (bytes_eq other text && list_any (λ from. is_around scopes from scope) uses))
+      is_marked_in scope other new
+      ≡ (is_marked_in scope other old
+      || (bytes_eq other text && list_any (λ from. is_around scopes from scope) uses))
 
 -- whether a text is a symbol, and whether it was given
 abbrev pub has_symbol : Hygiene → Text → Bool
@@ -82,30 +90,42 @@ last_of hygiene text = last_by hygiene.last.items (symbol_number hygiene.symbols
 
 -- whether a binding may keep its symbol, by what is marked
 abbrev pub may_keep_by : Hygiene → (home group : ℕ) → Text → Bool
-may_keep_by hygiene home group text = not (is_arguments text) && not (is_marked_in group text (marks_kept hygiene)) && not (is_marked_in home text (needed_by hygiene))
+may_keep_by hygiene home group text =
+    not (is_arguments text) && not (is_marked_in group text (marks_kept hygiene))
+    && not (is_marked_in home text (needed_by hygiene))
 
 -- a binding keeps its symbol
-pub record KeepsItsSymbol (scopes : List NumberedScope) (group : ℕ) (text : Text) (uses : List ℕ) (old new : Hygiene) : Type 0 where
+pub record KeepsItsSymbol
+    (scopes : List NumberedScope) (group : ℕ) (text : Text) (uses : List ℕ)
+    (old new : Hygiene) : Type 0 where
   pub kept : (number : ℕ) (other : Text) →
-      is_marked_in number other (marks_kept new) ≡ (is_marked_in number other (marks_kept old) || (number == group && bytes_eq other text))
-  pub needed : IsClosed scopes (needed_by old) → Marks scopes uses text (needed_by old) (needed_by new)
+      is_marked_in number other (marks_kept new)
+      ≡ (is_marked_in number other (marks_kept old) || (number == group && bytes_eq other text))
+  pub needed : IsClosed scopes (needed_by old) →
+      Marks scopes uses text (needed_by old) (needed_by new)
   pub symbols : new.symbols.keys ≡ old.symbols.keys
   pub given : new.given.keys ≡ old.given.keys
   pub last : (other : Text) → last_of new other ≡ last_of old other
 
 -- each number from one up to the last one makes a text that is taken
 abbrev pub AreTried : Hygiene → Text → Type 0
-AreTried hygiene text = (number : ℕ) → 0 < number → number ≤ last_of hygiene text → has_taken hygiene (numbered text number) ≡ true
+AreTried hygiene text =
+    (number : ℕ) →
+    0 < number →
+    number ≤ last_of hygiene text →
+    has_taken hygiene (numbered text number) ≡ true
 
 -- a binding gets a text
 pub record GivesText (text : Text) (number : ℕ) (old new : Hygiene) : Type 0 where
-  pub is_least : AreTried old text → is_least (λ other. has_taken old (numbered text other)) number ≡ true
+  pub is_least : AreTried old text →
+      is_least (λ other. has_taken old (numbered text other)) number ≡ true
   pub kept : marks_kept new ≡ marks_kept old
   pub needed : needed_by new ≡ needed_by old
   pub symbols : new.symbols.keys ≡ old.symbols.keys
   pub given : (other : Text) →
       has_given new other ≡ (has_given old other || bytes_eq other (numbered text number))
-  pub last : (other : Text) → last_of new other ≤ cond (bytes_eq text other) number (last_of old other)
+  pub last : (other : Text) →
+      last_of new other ≤ cond (bytes_eq text other) number (last_of old other)
 
 -- what is known once these bindings had their turn
 pub record Knows (facts : Facts) (done : List Turn) (hygiene : Hygiene) : Type 0 where
@@ -113,13 +133,16 @@ pub record Knows (facts : Facts) (done : List Turn) (hygiene : Hygiene) : Type 0
   pub needed : (scope : ℕ) (text : Text) →
       is_marked_in scope text (needed_by hygiene) ≡ is_symbol_needed facts done scope text
   pub closed : IsClosed facts.scopes (needed_by hygiene)
-  pub kept : (group : ℕ) (text : Text) → is_marked_in group text (marks_kept hygiene) ≡ is_kept facts done group text
+  pub kept : (group : ℕ) (text : Text) →
+      is_marked_in group text (marks_kept hygiene) ≡ is_kept facts done group text
   pub given : (text : Text) → has_given hygiene text ≡ list_any (gets facts text) done
   pub tried : (text : Text) → AreTried hygiene text
 
 -- whether an occurrence is a global of this symbol, or declares a binding of it
 abbrev pub is_called_in : List Item → List Text → Text → Denoted → Bool
-is_called_in items texts text occurrence = is_called_by texts text (symbol_by (slice_get items occurrence.place)) occurrence.declares occurrence.binding
+is_called_in items texts text occurrence =
+    is_called_by texts text (symbol_by (slice_get items occurrence.place)) occurrence.declares
+    occurrence.binding
 
 -- the symbol of an occurrence that is a global or declares a binding
 abbrev pub symbol_called : List Text → Option Text → (declares : Bool) → Option ℕ → Option Text
@@ -127,12 +150,16 @@ symbol_called texts sym declares None = sym
 symbol_called texts sym declares (Some binding) = cond declares (slice_get texts binding) None
 
 -- a symbol that has a number is needed in a scope, if there is one
-pub record AddsGlobal (scopes : List NumberedScope) (from : ℕ) (symbol : Option Text) (old new : Hygiene) : Type 0 where
+pub record AddsGlobal
+    (scopes : List NumberedScope) (from : ℕ) (symbol : Option Text)
+    (old new : Hygiene) : Type 0 where
   pub symbols : new.symbols.keys ≡ old.symbols.keys
   pub needed : ((text : Text) → is_symbol text symbol ≡ true → has_symbol old text ≡ true) →
       IsClosed scopes (needed_by old) →
       (scope : ℕ) (text : Text) →
-      is_marked_in scope text (needed_by new) ≡ (is_marked_in scope text (needed_by old) || (is_around scopes from scope && is_symbol text symbol))
+      is_marked_in scope text (needed_by new)
+      ≡ (is_marked_in scope text (needed_by old)
+      || (is_around scopes from scope && is_symbol text symbol))
   pub closed : ((text : Text) → is_symbol text symbol ≡ true → has_symbol old text ≡ true) →
       IsClosed scopes (needed_by old) → IsClosed scopes (needed_by new)
   pub kept : new.kept.keys ≡ old.kept.keys
@@ -140,13 +167,25 @@ pub record AddsGlobal (scopes : List NumberedScope) (from : ℕ) (symbol : Optio
   pub last : new.last.items ≡ old.last.items
 
 -- the symbol of an occurrence is needed, if it is a global, whose symbol has a number
-pub record AddsNeed (scopes : List NumberedScope) (items : List Item) (occurrence : Denoted) (old new : Hygiene) : Type 0 where
+pub record AddsNeed
+    (scopes : List NumberedScope) (items : List Item) (occurrence : Denoted)
+    (old new : Hygiene) : Type 0 where
   pub symbols : new.symbols.keys ≡ old.symbols.keys
-  pub needed : ((text : Text) → is_global_by text (symbol_by (slice_get items occurrence.place)) occurrence.binding ≡ true → has_symbol old text ≡ true) →
+  pub needed :
+      ((text : Text) →
+      is_global_by text (symbol_by (slice_get items occurrence.place)) occurrence.binding ≡ true →
+      has_symbol old text ≡ true) →
       IsClosed scopes (needed_by old) →
       (scope : ℕ) (text : Text) →
-      is_marked_in scope text (needed_by new) ≡ (is_marked_in scope text (needed_by old) || (is_around scopes occurrence.scope scope && is_global_by text (symbol_by (slice_get items occurrence.place)) occurrence.binding))
-  pub closed : ((text : Text) → is_global_by text (symbol_by (slice_get items occurrence.place)) occurrence.binding ≡ true → has_symbol old text ≡ true) →
+      is_marked_in scope text (needed_by new)
+      ≡ (is_marked_in scope text (needed_by old)
+      || (is_around scopes occurrence.scope scope
+      && is_global_by text (symbol_by (slice_get items occurrence.place))
+      occurrence.binding))
+  pub closed :
+      ((text : Text) →
+      is_global_by text (symbol_by (slice_get items occurrence.place)) occurrence.binding ≡ true →
+      has_symbol old text ≡ true) →
       IsClosed scopes (needed_by old) → IsClosed scopes (needed_by new)
   pub kept : new.kept.keys ≡ old.kept.keys
   pub given : new.given.keys ≡ old.given.keys
@@ -154,4 +193,5 @@ pub record AddsNeed (scopes : List NumberedScope) (items : List Item) (occurrenc
 
 -- the scopes of the occurrences that denote a binding
 abbrev pub binding_scopes : List Denoted → ℕ → List ℕ
-binding_scopes occurrences number = map (λ occurrence. occurrence.scope) (filter (denotes number) occurrences)
+binding_scopes occurrences number =
+    map (λ occurrence. occurrence.scope) (filter (denotes number) occurrences)

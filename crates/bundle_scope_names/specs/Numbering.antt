@@ -12,12 +12,18 @@ use Rattle.bundle_scope_names.specs.declared.contexts.ContextNumbers.{ContextNum
 
 -- whether a binding of a table is one of the top
 abbrev pub is_of_top : Denotations → ℕ → Bool
-is_of_top table number = unwrap_or (option_map (λ (binding : Binding). passes is_top (map numbered_scope table.scopes.items) binding.scope) (slice_get table.bindings.items number)) false
+is_of_top table number =
+    unwrap_or
+    (option_map
+    (λ (binding : Binding).
+    passes is_top (map numbered_scope table.scopes.items) binding.scope)
+    (slice_get table.bindings.items number)) false
 
 -- the number of a binding, where numbers from `next` on were given to these in turn
 abbrev pub binding_number : (next : ℕ) → List ℕ → ℕ → Option ℕ
 binding_number next [] binding = None
-binding_number next (first ∷ rest) binding = cond (nat_eq first binding) (Some next) (binding_number (next + 1) rest binding)
+binding_number next (first ∷ rest) binding =
+    cond (nat_eq first binding) (Some next) (binding_number (next + 1) rest binding)
 
 -- the numbers in hand are those that were given to these bindings from `next` on
 pub record AreGiven (next : ℕ) (given : List ℕ) (numbers : ContextNumbers) : Type 0 where
@@ -27,25 +33,32 @@ pub record AreGiven (next : ℕ) (given : List ℕ) (numbers : ContextNumbers) :
       binding < length numbers.of.items →
       get_or numbers.of.items binding None ≡ binding_number next given binding
 
--- the context of what has this binding or none: 1 for a global, the local one at the top, and else its number
+-- the context of what has this binding or none: 1 for a global, the local one at the top, and else
+-- its number
 abbrev pub HasContext : Denotations → (local next : ℕ) → List ℕ → Option ℕ → ℕ → Type 0
 HasContext table local next given None context = context ≡ 1
-HasContext table local next given (Some binding) context = cond (is_of_top table binding) (Some local) (binding_number next given binding) ≡ Some context
+HasContext table local next given (Some binding) context =
+    cond (is_of_top table binding) (Some local) (binding_number next given binding) ≡ Some context
 
 -- each of these bindings stands once, is denoted by an occurrence, and is none of the top
 pub record AreDenoted (table : Denotations) (given : List ℕ) : Type 0 where
   pub once : IsOnce given
   pub denoted : (k binding : ℕ) →
       slice_get given k ≡ Some binding →
-      (i : ℕ) × (entry : Denoted) × (slice_get table.occurrences.items i ≡ Some entry) × (entry.binding ≡ Some binding)
+      (i : ℕ) × (entry : Denoted) × (slice_get table.occurrences.items i ≡ Some entry)
+      × (entry.binding ≡ Some binding)
   pub inner : (k binding : ℕ) → slice_get given k ≡ Some binding → is_of_top table binding ≡ false
 
 -- the contexts of a list with this table
-pub record AreContextsNumbered (table : Denotations) (local next : ℕ) (resolution : ContextsGiven) : Type 0 where
+pub record AreContextsNumbered
+    (table : Denotations) (local next : ℕ) (resolution : ContextsGiven) : Type 0 where
   pub given : List ℕ
   pub denoted : AreDenoted table given
   pub later : resolution.next ≡ next + length given
-  pub contexts : AllZip (λ (entry : Denoted) (context : ℕ). HasContext table local next given entry.binding context) table.occurrences.items resolution.contexts.items
+  pub contexts :
+      AllZip
+      (λ (entry : Denoted) (context : ℕ). HasContext table local next given entry.binding context)
+      table.occurrences.items resolution.contexts.items
 
 -- so many bindings want a number that the last is past the greatest
 pub record LacksNumbers (table : Denotations) (next : ℕ) : Type 0 where
@@ -60,7 +73,11 @@ AnswersNumbers table local next (Some resolution) = AreContextsNumbered table lo
 
 -- each binding that an occurrence denotes is one of the table
 abbrev pub AreBindingsWithin : Denotations → Type 0
-AreBindingsWithin table = (i binding : ℕ) (entry : Denoted) → slice_get table.occurrences.items i ≡ Some entry → entry.binding ≡ Some binding → binding < length table.bindings.items
+AreBindingsWithin table =
+    (i binding : ℕ) (entry : Denoted) →
+    slice_get table.occurrences.items i ≡ Some entry →
+    entry.binding ≡ Some binding →
+    binding < length table.bindings.items
 
 -- no binding has a number so far
 pub record HasNoNumbers (next count : ℕ) (numbers : ContextNumbers) : Type 0 where
@@ -94,19 +111,27 @@ IsNumber next given binding new (Some number) = HasBindingNumber next given bind
 -- asked for the number of a binding, the numbers go on so
 pub record GivesNumber (binding : ℕ) (old new : ContextNumbers) (result : Option ℕ) : Type 0 where
   pub len : length new.of.items ≡ length old.of.items
-  pub gives : (next : ℕ) (given : List ℕ) → AreGiven next given old → IsNumber next given binding new result
+  pub gives : (next : ℕ) (given : List ℕ) →
+      AreGiven next given old →
+      IsNumber next given binding new result
 
 -- asked for the context of what has this binding or none
-abbrev pub GivesContext : Denotations → (local : ℕ) → Option ℕ → ContextNumbers → ContextNumbers → Option ℕ → Type 0
+abbrev pub GivesContext :
+    Denotations → (local : ℕ) → Option ℕ → ContextNumbers → ContextNumbers → Option ℕ → Type 0
 GivesContext table local None old new result = (new ≡ old) × (result ≡ Some 1)
 GivesContext table local (Some binding) old new result =
     ((is_of_top table binding ≡ true) × (new ≡ old) × (result ≡ Some local))
     ⊎ ((is_of_top table binding ≡ false) × GivesNumber binding old new result)
 
 -- the occurrences that were passed have these contexts
-pub record IsNumberedTo (table : Denotations) (local next : ℕ) (numbers : ContextNumbers) (contexts : List ℕ) (passed : List Denoted) : Type 0 where
+pub record IsNumberedTo
+    (table : Denotations) (local next : ℕ) (numbers : ContextNumbers) (contexts : List ℕ)
+    (passed : List Denoted) : Type 0 where
   pub len : length numbers.of.items ≡ length table.bindings.items
   pub given : List ℕ
   pub holds : AreGiven next given numbers
   pub denoted : AreDenoted table given
-  pub contexts_are : AllZip (λ (entry : Denoted) (context : ℕ). HasContext table local next given entry.binding context) passed contexts
+  pub contexts_are :
+      AllZip
+      (λ (entry : Denoted) (context : ℕ). HasContext table local next given entry.binding context)
+      passed contexts

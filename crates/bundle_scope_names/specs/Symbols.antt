@@ -10,7 +10,9 @@ use Rattle.bundle_scope_names.specs.Turns.{declares_number}
 use Rattle.bundle_scope_names.specs.Marks.{Symbol, is_among, is_called_in, symbol_number}
 
 -- a binding's symbol has a number
-pub record HasSymbolNumber (texts : List Text) (keys : List Symbol) (numbers : List (Option ℕ)) (binding : ℕ) : Type 0 where
+pub record HasSymbolNumber
+    (texts : List Text) (keys : List Symbol) (numbers : List (Option ℕ))
+    (binding : ℕ) : Type 0 where
   pub number : ℕ
   pub is : at numbers binding ≡ Some number
   pub own : symbol_number keys (unwrap_or (slice_get texts binding) []) ≡ Some number
@@ -23,9 +25,11 @@ HaveSymbolNumbers texts occurrences keys numbers = (binding : ℕ) →
     HasSymbolNumber texts keys numbers binding
 
 -- the symbol of an occurrence is added, if it is a global or declares a binding, and numbers stay
-pub record AddsSymbol (items : List Item) (texts : List Text) (occurrence : Denoted) (old new : Before) : Type 0 where
+pub record AddsSymbol
+    (items : List Item) (texts : List Text) (occurrence : Denoted) (old new : Before) : Type 0 where
   pub symbols : (text : Text) →
-      is_among text new.symbols.keys ≡ (is_among text old.symbols.keys || is_called_in items texts text occurrence)
+      is_among text new.symbols.keys
+      ≡ (is_among text old.symbols.keys || is_called_in items texts text occurrence)
   pub stay : (text : Text) (number : ℕ) →
       symbol_number old.symbols.keys text ≡ Some number →
       symbol_number new.symbols.keys text ≡ Some number

@@ -17,7 +17,8 @@ use Rattle.bundle_scope_denote.specs.Bound.{joins_outer}
 use Rattle.bundle_scope_names.specs.declared.names.Names.{Names}
 use Rattle.bundle_scope_names.specs.Called.{binding_text, context_of}
 
--- what the rule reads: the scopes, the scope and the symbol of each binding, the occurrences with what they denote, and the list
+-- what the rule reads: the scopes, the scope and the symbol of each binding, the occurrences with
+-- what they denote, and the list
 pub record Facts : Type 0 where
   pub scopes : List NumberedScope
   pub homes : List ℕ
@@ -28,14 +29,22 @@ pub record Facts : Type 0 where
 -- the symbols by which names call bindings, from the one with this number on
 abbrev pub symbols_from : Names → ℕ → List Binding → List Text
 symbols_from names number [] = []
-symbols_from names number (x ∷ rest) = unwrap_or (binding_text names number) x.sym.now ∷ symbols_from names (number + 1) rest
+symbols_from names number (x ∷ rest) =
+    unwrap_or (binding_text names number) x.sym.now ∷ symbols_from names (number + 1) rest
 
 abbrev pub homes_of : List Binding → List ℕ
 homes_of bindings = map (λ binding. binding.scope) bindings
 
 -- what the rule reads of a table, where names call its bindings so
 abbrev pub facts_of : Denotations → List Item → Names → Facts
-facts_of table items names = record { scopes = map n.numbered_scope table.scopes.items; homes = homes_of table.bindings.items; symbols = symbols_from names 0 table.bindings.items; occurrences = table.occurrences.items; items = items }
+facts_of table items names =
+    record {
+      scopes = map n.numbered_scope table.scopes.items;
+      homes = homes_of table.bindings.items;
+      symbols = symbols_from names 0 table.bindings.items;
+      occurrences = table.occurrences.items;
+      items = items;
+    }
 
 -- the symbol of a binding, and the number of its scope
 abbrev pub binding_symbol : Facts → ℕ → Text
@@ -56,11 +65,13 @@ is_symbol text (Some sym) = bytes_eq sym text
 
 -- the number of the scope whose names keep apart with those of a scope
 abbrev pub group_number : List NumberedScope → ℕ → ℕ
-group_number scopes number = cond (passes joins_outer scopes number) (unwrap_or (outer_at scopes number) number) number
+group_number scopes number =
+    cond (passes joins_outer scopes number) (unwrap_or (outer_at scopes number) number) number
 
 -- whether a scope is one or stands around one
 abbrev pub is_around : List NumberedScope → (from : ℕ) → ℕ → Bool
-is_around scopes from scope = list_any (λ number. number == scope) (scopes_outwards scopes (length scopes) (Some from))
+is_around scopes from scope =
+    list_any (λ number. number == scope) (scopes_outwards scopes (length scopes) (Some from))
 
 -- a binding that had its turn, and the number that it got: zero where it keeps its symbol
 pub record Turn : Type 0 where
@@ -72,7 +83,10 @@ keeps_symbol turn = turn.number == 0
 
 -- whether a binding keeps this symbol in a group
 abbrev pub keeps_in : Facts → (group : ℕ) → Text → Turn → Bool
-keeps_in facts group text turn = keeps_symbol turn && (group_number facts.scopes (home_number facts turn.binding) == group && bytes_eq (binding_symbol facts turn.binding) text)
+keeps_in facts group text turn =
+    keeps_symbol turn
+    && (group_number facts.scopes (home_number facts turn.binding) == group
+    && bytes_eq (binding_symbol facts turn.binding) text)
 
 abbrev pub is_kept : Facts → List Turn → (group : ℕ) → Text → Bool
 is_kept facts done group text = list_any (keeps_in facts group text) done
@@ -84,23 +98,32 @@ keeps_own binding turn = keeps_symbol turn && turn.binding == binding
 -- whether what has this number is a global of this symbol, or a binding that keeps it
 abbrev pub needs_by : Facts → List Turn → Text → Option Text → Option ℕ → Bool
 needs_by facts done text sym None = is_symbol text sym
-needs_by facts done text sym (Some binding) = bytes_eq (binding_symbol facts binding) text && list_any (keeps_own binding) done
+needs_by facts done text sym (Some binding) =
+    bytes_eq (binding_symbol facts binding) text && list_any (keeps_own binding) done
 
 -- whether an occurrence needs the symbol
 abbrev pub needs : Facts → List Turn → Text → Denoted → Bool
-needs facts done text occurrence = needs_by facts done text (symbol_by (slice_get facts.items occurrence.place)) occurrence.binding
+needs facts done text occurrence =
+    needs_by facts done text (symbol_by (slice_get facts.items occurrence.place)) occurrence.binding
 
 -- whether an occurrence in the scope needs the symbol
 abbrev pub needs_in : Facts → List Turn → (scope : ℕ) → Text → Denoted → Bool
-needs_in facts done scope text occurrence = is_around facts.scopes occurrence.scope scope && needs facts done text occurrence
+needs_in facts done scope text occurrence =
+    is_around facts.scopes occurrence.scope scope && needs facts done text occurrence
 
 abbrev pub is_symbol_needed : Facts → List Turn → (scope : ℕ) → Text → Bool
 is_symbol_needed facts done scope text = list_any (needs_in facts done scope text) facts.occurrences
 
--- whether a binding may keep its symbol: no declared `arguments` does, nor one whose symbol is kept in its group or needed in its scope
+-- whether a binding may keep its symbol: no declared `arguments` does, nor one whose symbol is kept
+-- in its group or needed in its scope
 abbrev pub may_keep_symbol : Facts → List Turn → ℕ → Bool
 may_keep_symbol facts done binding =
-    not (is_arguments (binding_symbol facts binding)) && not (is_kept facts done (group_number facts.scopes (home_number facts binding)) (binding_symbol facts binding)) && not (is_symbol_needed facts done (home_number facts binding) (binding_symbol facts binding))
+    not (is_arguments (binding_symbol facts binding))
+    && not
+    (is_kept facts done (group_number facts.scopes (home_number facts binding))
+    (binding_symbol facts binding))
+    && not
+    (is_symbol_needed facts done (home_number facts binding) (binding_symbol facts binding))
 
 -- whether an occurrence is a global of this symbol, or declares a binding of it
 abbrev pub is_global_by : Text → Option Text → Option ℕ → Bool
@@ -110,10 +133,13 @@ is_global_by text sym (Some binding) = false
 abbrev pub is_called_by : List Text → Text → Option Text → (declares_number : Bool) → Option ℕ →
     Bool
 is_called_by symbols text sym declares_number None = is_symbol text sym
-is_called_by symbols text sym declares_number (Some binding) = declares_number && is_symbol text (slice_get symbols binding)
+is_called_by symbols text sym declares_number (Some binding) =
+    declares_number && is_symbol text (slice_get symbols binding)
 
 abbrev pub is_binding_called : Facts → Text → Denoted → Bool
-is_binding_called facts text occurrence = is_called_by facts.symbols text (symbol_by (slice_get facts.items occurrence.place)) occurrence.declares occurrence.binding
+is_binding_called facts text occurrence =
+    is_called_by facts.symbols text (symbol_by (slice_get facts.items occurrence.place))
+    occurrence.declares occurrence.binding
 
 -- whether a text is that of a global or of a declared binding beforehand
 abbrev pub is_before : Facts → Text → Bool
@@ -121,7 +147,9 @@ is_before facts text = list_any (is_binding_called facts text) facts.occurrences
 
 -- whether a binding got this text
 abbrev pub gets : Facts → Text → Turn → Bool
-gets facts text turn = not (keeps_symbol turn) && bytes_eq (numbered (binding_symbol facts turn.binding) turn.number) text
+gets facts text turn =
+    not (keeps_symbol turn)
+    && bytes_eq (numbered (binding_symbol facts turn.binding) turn.number) text
 
 abbrev pub is_text_taken : Facts → List Turn → Text → Bool
 is_text_taken facts done text = is_before facts text || list_any (gets facts text) done
@@ -138,11 +166,18 @@ is_least test (suc k) = not (test (suc k)) && all_to test k
 
 -- whether the next binding has the number that it is to have
 abbrev pub is_right : Facts → List Turn → Turn → Bool
-is_right facts done turn = cond (may_keep_symbol facts done turn.binding) (keeps_symbol turn) (is_least (λ number. is_text_taken facts done (numbered (binding_symbol facts turn.binding) number)) turn.number)
+is_right facts done turn =
+    cond (may_keep_symbol facts done turn.binding) (keeps_symbol turn)
+    (is_least
+    (λ number. is_text_taken facts done (numbered (binding_symbol facts turn.binding) number))
+    turn.number)
 
 -- each has, after those before it
 abbrev pub AreTurnsRight : Facts → List Turn → Type 0
-AreTurnsRight facts turns = (i : ℕ) (turn : Turn) → slice_get turns i ≡ Some turn → is_right facts (take i turns) turn ≡ true
+AreTurnsRight facts turns =
+    (i : ℕ) (turn : Turn) →
+    slice_get turns i ≡ Some turn →
+    is_right facts (take i turns) turn ≡ true
 
 -- whether there is this number
 abbrev pub is_this_number : ℕ → Option ℕ → Bool
@@ -158,11 +193,13 @@ declares_number number occurrence = occurrence.declares && denotes number occurr
 
 -- the place of the first occurrence that declares a binding
 abbrev pub first_of : List Denoted → ℕ → Option ℕ
-first_of occurrences number = option_map (λ occurrence. occurrence.place) (find (declares_number number) occurrences)
+first_of occurrences number =
+    option_map (λ occurrence. occurrence.place) (find (declares_number number) occurrences)
 
 -- the first place once one more occurrence was met
 abbrev pub first_after : Denoted → ℕ → Option ℕ → Option ℕ
-first_after occurrence number first = option_or first (cond (declares_number number occurrence) (Some occurrence.place) None)
+first_after occurrence number first =
+    option_or first (cond (declares_number number occurrence) (Some occurrence.place) None)
 
 -- a binding by its scope, its first place and its number
 abbrev pub Place : Type 0
@@ -172,10 +209,14 @@ Place = ℕ × ℕ × ℕ
 abbrev pub ComesBefore : Place → Place → Type 0
 ComesBefore a b = (a.0 < b.0) ⊎ ((a.0 ≡ b.0) × (a.1 ≤ b.1))
 
--- the bindings that occurrences declare, each once, in the order of their scopes, and in a scope by their first place
-pub record AreInTurn (homes : List ℕ) (occurrences : List Denoted) (places : List Place) : Type 0 where
+-- the bindings that occurrences declare, each once, in the order of their scopes, and in a scope by
+-- their first place
+pub record AreInTurn
+    (homes : List ℕ) (occurrences : List Denoted) (places : List Place) : Type 0 where
   pub home : (i : ℕ) (a : Place) → slice_get places i ≡ Some a → slice_get homes a.2 ≡ Some a.0
-  pub first : (i : ℕ) (a : Place) → slice_get places i ≡ Some a → first_of occurrences a.2 ≡ Some a.1
+  pub first : (i : ℕ) (a : Place) →
+      slice_get places i ≡ Some a →
+      first_of occurrences a.2 ≡ Some a.1
   pub all : (number first : ℕ) →
       number < length homes →
       first_of occurrences number ≡ Some first →
@@ -193,14 +234,18 @@ pub record AreInTurn (homes : List ℕ) (occurrences : List Denoted) (places : L
 
 -- the text that a binding gets at its turn, where it does not keep its symbol
 abbrev pub text_given : Facts → Turn → Option Text
-text_given facts turn = cond (keeps_symbol turn) None (Some (numbered (binding_symbol facts turn.binding) turn.number))
+text_given facts turn =
+    cond (keeps_symbol turn) None (Some (numbered (binding_symbol facts turn.binding) turn.number))
 
 -- the new text of a binding that had its turn
 abbrev pub text_by : Facts → Names → Turn → Option Text
-text_by facts keywords turn = cond (keeps_symbol turn) (binding_text keywords turn.binding) (Some (numbered (binding_symbol facts turn.binding) turn.number))
+text_by facts keywords turn =
+    cond (keeps_symbol turn) (binding_text keywords turn.binding)
+    (Some (numbered (binding_symbol facts turn.binding) turn.number))
 
 -- these are what bindings are called that had their turn; all others are called as before
-pub record AreCalledAfter (facts : Facts) (keywords : Names) (turns : List Turn) (names : Names) : Type 0 where
+pub record AreCalledAfter
+    (facts : Facts) (keywords : Names) (turns : List Turn) (names : Names) : Type 0 where
   pub right : AreTurnsRight facts turns
   pub texts : (i : ℕ) (turn : Turn) →
       slice_get turns i ≡ Some turn →
@@ -214,7 +259,8 @@ pub record AreCalledAfter (facts : Facts) (keywords : Names) (turns : List Turn)
       context_of names number ≡ context_of keywords number
 
 -- the names of a table's bindings, where keywords' names call them so before
-pub record AreBindingsNamed (table : Denotations) (items : List Item) (keywords names : Names) : Type 0 where
+pub record AreBindingsNamed
+    (table : Denotations) (items : List Item) (keywords names : Names) : Type 0 where
   pub places : List Place
   pub in_turn : AreInTurn (homes_of table.bindings.items) table.occurrences.items places
   pub turns : List Turn

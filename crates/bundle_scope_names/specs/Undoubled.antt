@@ -7,4 +7,5 @@ use Rattle.bundle_rules.specs.Doubled.{is_doubled}
 
 -- no declaration of a tree clashes with one before it, by symbol and context
 abbrev pub IsUndoubled : List Item → Type 0
-IsUndoubled items = find (is_doubled (declared ByContext Es items)) (declared ByContext Es items) ≡ None
+IsUndoubled items =
+    find (is_doubled (declared ByContext Es items)) (declared ByContext Es items) ≡ None

@@ -14,7 +14,9 @@ up_to (Some number) = suc number
 -- of so many occurrences this is the last one that denotes a binding
 pub record IsLastUse (occurrences : List Denoted) (binding count : ℕ)
     (found : Option ℕ) : Type 0 where
-  pub uses : binding_scopes (take count occurrences) binding ≡ binding_scopes (take (up_to found) occurrences) binding
+  pub uses :
+      binding_scopes (take count occurrences) binding
+      ≡ binding_scopes (take (up_to found) occurrences) binding
   pub within : (number : ℕ) → found ≡ Some number → number < count
   pub own : (number : ℕ) →
       found ≡ Some number →

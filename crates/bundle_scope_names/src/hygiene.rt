@@ -34,7 +34,7 @@ use std::collections::HashSet;
 type Place = (usize, usize, usize);
 
 // Numbers of scopes, each with that of a symbol.
-type Keys = HashSet<(usize, usize), Mixed>;
+type MarkedSymbols = HashSet<(usize, usize), Mixed>;
 
 // What is known of the bindings before one.
 #[derive(Drop)]
@@ -42,9 +42,9 @@ struct Hygiene<'s> {
     // The symbols of the bindings and of the globals, which have their places as numbers.
     symbols: IndexSet<&'s str, Salt>,
     // The scopes in which, or in a scope inside which, a symbol denotes a global or a binding that keeps it.
-    needed: Keys,
+    needed: MarkedSymbols,
     // The groups of scopes in which a binding keeps a symbol.
-    kept: Keys,
+    kept: MarkedSymbols,
     // The texts that were given.
     given: HashSet<String, Salt>,
     // For each symbol, by its number, the last number that was tried, or zero.
@@ -82,7 +82,8 @@ pub fn hygienic_names<'a>(
     keywords: &Names,
 ) -> Result<Names, AllocError>
     requires { AreInOrder (map numbered_scope denotations.now.scopes.items) }
-    ensures named { IfOk result (AreBindingsNamed denotations.now (map item_of pieces.now) keywords.now) }
+    ensures named { IfOk result
+        (AreBindingsNamed denotations.now (map item_of pieces.now) keywords.now) }
     ensures texts { IfOk result (λ names.
         length names.texts.items ≡ length denotations.now.bindings.items) }
     ensures contexts { IfOk result (λ names.
@@ -360,7 +361,12 @@ fn symbol_declared<'s>(symbols: &[&'s str], binding: usize, declares: bool) -> O
 }
 
 // Marks the symbol with a number in a scope and in those around it.
-fn mark(marks: &mut Keys, scopes: &[Scope], from: usize, symbol: usize) -> Result<(), AllocError>
+fn mark(
+    marks: &mut MarkedSymbols,
+    scopes: &[Scope],
+    from: usize,
+    symbol: usize,
+) -> Result<(), AllocError>
     requires { AreInOrder (map numbered_scope scopes.now) }
     ensures { OnOk result
         ((symbols : List Symbol) (text : Text) →
@@ -384,7 +390,7 @@ fn mark(marks: &mut Keys, scopes: &[Scope], from: usize, symbol: usize) -> Resul
 
 // Marks it in the scopes of a binding's occurrences and in those around them.
 fn mark_all(
-    marks: &mut Keys,
+    marks: &mut MarkedSymbols,
     scopes: &[Scope],
     occurrences: &[Denoted],
     uses: &Uses,
@@ -496,7 +502,8 @@ impl<'s> Hygiene<'s> {
     ) -> Result<(), AllocError>
         requires { AreInOrder (map numbered_scope scopes.now) }
         ensures { OnOk result
-            (AddsNeed (map numbered_scope scopes.now) (map item_of pieces.now) occurrence self.old self.new) }
+            (AddsNeed (map numbered_scope scopes.now) (map item_of pieces.now) occurrence self.old
+            self.new) }
     {
         match occurrence.binding {
             None => self.add_global(pieces, scopes, occurrence),

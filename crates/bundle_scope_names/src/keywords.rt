@@ -185,7 +185,8 @@ impl<'a> TakenNames<'a> {
         ensures names { OnOk result
             ((other : ℕ) (text : Text) →
             has_symbol_at other text self.new.names.keys
-            ≡ (has_symbol_at other text self.old.names.keys || (other == ctxt && bytes_eq text sym.now))) }
+            ≡ (has_symbol_at other text self.old.names.keys
+            || (other == ctxt && bytes_eq text sym.now))) }
         ensures contexts { OnOk result
             ((other : ℕ) →
             list_any (λ its. other == its) self.new.contexts.keys

@@ -47,7 +47,8 @@ impl Names {
     pub(crate) fn copied(&self, alloc: Global, count: usize) -> Result<Names, AllocError>
         ensures same { IfOk result (λ names.
             (number : ℕ) →
-            number < count → called.binding_text names number ≡ called.binding_text self.now number) }
+            number < count →
+            called.binding_text names number ≡ called.binding_text self.now number) }
         ensures same_contexts { IfOk result (λ names.
             (number : ℕ) →
             number < count →
@@ -91,7 +92,8 @@ impl Names {
         ensures own { binding < length self.old.texts.items →
             called.binding_text self.new binding ≡ Some (string_bytes text) }
         ensures others { (other : ℕ) →
-            other ≢ binding → called.binding_text self.new other ≡ called.binding_text self.old other }
+            other ≢ binding →
+            called.binding_text self.new other ≡ called.binding_text self.old other }
     {
         if let Some(its) = self.texts.get_mut(binding) {
             *its = Some(text);

@@ -1,5 +1,5 @@
--- The list of a tree: where each node begins and ends, and the identifiers, in the order of the source
--- (ECMA-262, 13 to 16).
+-- The list of a tree: where each node begins and ends, and the identifiers, in the order of the
+-- source (ECMA-262, 13 to 16).
 use Rattle.std.specs.Prelude.{ℕ, Bool as Truth, List, Option, option_map}
 use Rattle.bundle_syntax.specs.declared.kind.ExportMetadata.{ExportMetadata}
 use Rattle.bundle_syntax.specs.declared.kind.MetaPropKind.{MetaPropKind}

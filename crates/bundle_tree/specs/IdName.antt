@@ -26,13 +26,15 @@ pub record IsIdentExpr (e : Expr) (name : IdName) : Type 0 where
   pub is : e ≡ expr.Ident ident
   pub named : ident_name ident ≡ name
 
--- whether two names have one symbol and one context, as a test; `name_eq-Decides` says that it tests whether they are the same
+-- whether two names have one symbol and one context, as a test; `name_eq-Decides` says that it
+-- tests whether they are the same
 abbrev pub id_name_eq : IdName → IdName → Bool
 id_name_eq = eq_of_both (on (λ name. name.symbol) bytes_eq) (on (λ name. name.context) nat_eq)
 
 -- names in order: by the bytes of the symbols, and where these are the same by the contexts
 abbrev pub name_cmp : IdName → IdName → Ordering
-name_cmp = then_cmp (on (λ name. name.symbol) (slice_cmp nat_cmp)) (on (λ name. name.context) nat_cmp)
+name_cmp =
+    then_cmp (on (λ name. name.symbol) (slice_cmp nat_cmp)) (on (λ name. name.context) nat_cmp)
 
 -- what a hasher is given of a name: the symbol, and then the context
 abbrev pub id_hash_input : IdName → fed.HashWrites

@@ -11,7 +11,9 @@ use Rattle.bundle_tree.specs.IdName.{IdName, id_name_eq, name_cmp, id_hash_input
 
 -- the test is an equivalence
 pub id_name_eq_equiv : IsEquivalence id_name_eq
-id_name_eq_equiv = and_equiv (on_equiv (λ (n : IdName). n.symbol) nat_list_eq_equiv) (on_equiv (λ (n : IdName). n.context) nat_eq_equiv)
+id_name_eq_equiv =
+    and_equiv (on_equiv (λ (n : IdName). n.symbol) nat_list_eq_equiv)
+    (on_equiv (λ (n : IdName). n.context) nat_eq_equiv)
 
 pub name_eq_per : IsPartialEquivalence id_name_eq
 name_eq_per = partial_equiv_from_equiv id_name_eq_equiv
@@ -23,17 +25,22 @@ same_name a b s c = λ i. record { symbol = s i; context = c i }
 -- the test is true exactly of equal names
 pub id_name_eq-Decides : (a b : IdName) → Decides (id_name_eq a b) (a ≡ b)
 id_name_eq-Decides a b = (
-  λ e. same_name a b ((bytes_eq-Decides _ _).0 (first_so _ _ e)) ((unsigned_Decides _ _).0 (second_so _ _ e)),
+  λ e.
+      same_name a b ((bytes_eq-Decides _ _).0 (first_so _ _ e))
+      ((unsigned_Decides _ _).0 (second_so _ _ e)),
   λ e. ap (λ n. id_name_eq n b) e ∙ id_name_eq_equiv.refl b,
 )
 
 -- the order is total
 pub name_cmp_total : IsTotalOrder name_cmp
-name_cmp_total = then_total (on_total (λ (n : IdName). n.symbol) nat_list_cmp_total) (on_total (λ (n : IdName). n.context) nat_cmp_total)
+name_cmp_total =
+    then_total (on_total (λ (n : IdName). n.symbol) nat_list_cmp_total)
+    (on_total (λ (n : IdName). n.context) nat_cmp_total)
 
 -- it answers `Equal` exactly where the test holds
 pub name_cmp-ties : (a b : IdName) → id_name_eq a b ≡ eq_by_cmp name_cmp a b
-name_cmp-ties a b = both_tied _ _ _ _ (texts_ties a.symbol b.symbol) (unsigned_ties a.context b.context)
+name_cmp-ties a b =
+    both_tied _ _ _ _ (texts_ties a.symbol b.symbol) (unsigned_ties a.context b.context)
 
 -- names that tie are the same
 pub name_cmp-IsAntisymmetric : IsAntisymmetric name_cmp

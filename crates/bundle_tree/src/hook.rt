@@ -64,6 +64,9 @@ pub trait Hook: Drop {
         module_record: &ModuleRecord,
     ) -> Result<Vec<KeyValueProp>, HookError>
         ensures answer { IfOk result (λ props.
-            may_give self.now (name_of module_record.now.file_name) module_record.now.is_entry props.items) }
-        ensures failure { result ≡ Err HookError.Failed → may_fail_hook self.now (name_of module_record.now.file_name) module_record.now.is_entry };
+            may_give self.now (name_of module_record.now.file_name) module_record.now.is_entry
+            props.items) }
+        ensures failure { result ≡ Err HookError.Failed →
+            may_fail_hook self.now (name_of module_record.now.file_name)
+            module_record.now.is_entry };
 }

@@ -59,14 +59,16 @@ pub trait Load {
     /// The module of a file. Refused where it cannot be loaded, and for memory.
     fn load(&self, alloc: Global, file: &FileName) -> Result<ModuleData, LoadError>
         ensures answer { IfOk result (λ loaded. may_load self.now (name_of file.now) loaded) }
-        ensures failure { result ≡ Err LoadError.Failed → may_fail_load self.now (name_of file.now) };
+        ensures failure { result ≡ Err LoadError.Failed →
+            may_fail_load self.now (name_of file.now) };
 
     /// The module of a file, of a loader that is not asked for that file again: where `load` gives a copy, it may
     /// hand over what it has. By itself it does what `load` does. For any other file it may give from then on
     /// what it might before, and fail where it might.
     fn hand_over(&mut self, alloc: Global, file: &FileName) -> Result<ModuleData, LoadError>
         ensures answer { IfOk result (λ loaded. may_load self.old (name_of file.now) loaded) }
-        ensures failure { result ≡ Err LoadError.Failed → may_fail_load self.old (name_of file.now) }
+        ensures failure { result ≡ Err LoadError.Failed →
+            may_fail_load self.old (name_of file.now) }
         ensures others { (other : Name) (given : ModuleData) →
             other ≢ name_of file.now →
             may_load self.new other given →

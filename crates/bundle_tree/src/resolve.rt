@@ -56,7 +56,8 @@ pub trait Resolve {
     ) -> Result<FileName, ResolveError>
         ensures answer { IfOk result (λ file.
             may_resolve self.now (name_of base.now) specifier.now (name_of file)) }
-        ensures failure { result ≡ Err ResolveError.Failed → may_fail_resolve self.now (name_of base.now) specifier.now };
+        ensures failure { result ≡ Err ResolveError.Failed →
+            may_fail_resolve self.now (name_of base.now) specifier.now };
 }
 
 impl<T: Resolve> Resolve for &T {

@@ -21,7 +21,8 @@ abbrev pub text_of : Name → List ℕ
 text_of (real text) = text
 text_of (custom text) = text
 
--- whether two names have one kind and one text, as a test; `name_eq-Decides` says that it tests whether they are the same
+-- whether two names have one kind and one text, as a test; `name_eq-Decides` says that it tests
+-- whether they are the same
 abbrev pub name_eq : Name → Name → Bool
 name_eq (real a) (real b) = bytes_eq a b
 name_eq (real a) (custom b) = false

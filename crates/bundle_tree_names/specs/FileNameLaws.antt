@@ -10,13 +10,15 @@ use Rattle.bundle_tree_names.specs.declared.file_name.FileName.{FileName}
 
 -- the test is true exactly of equal names
 pub name_eq-Decides : (a b : Name) → Decides (name_eq a b) (a ≡ b)
-name_eq-Decides (real a) (real b) = (λ e. ap real ((bytes_eq-Decides a b).0 e), λ e. (bytes_eq-Decides a b).1 (same a b e))
+name_eq-Decides (real a) (real b) =
+    (λ e. ap real ((bytes_eq-Decides a b).0 e), λ e. (bytes_eq-Decides a b).1 (same a b e))
   where
     same : (x y : List ℕ) → real x ≡ real y → x ≡ y
     same x y e = cc
 name_eq-Decides (real a) (custom b) = (λ e. absurd (true≢false (sym e)), λ e. cc)
 name_eq-Decides (custom a) (real b) = (λ e. absurd (true≢false (sym e)), λ e. cc)
-name_eq-Decides (custom a) (custom b) = (λ e. ap custom ((bytes_eq-Decides a b).0 e), λ e. (bytes_eq-Decides a b).1 (same a b e))
+name_eq-Decides (custom a) (custom b) =
+    (λ e. ap custom ((bytes_eq-Decides a b).0 e), λ e. (bytes_eq-Decides a b).1 (same a b e))
   where
     same : (x y : List ℕ) → custom x ≡ custom y → x ≡ y
     same x y e = cc
@@ -43,5 +45,7 @@ pub file_name_eq_per : IsPartialEquivalence (λ (a b : FileName). name_eq (name_
 file_name_eq_per = on_per name_of (partial_equiv_from_equiv name_eq_equiv)
 
 -- equal file names are hashed alike
-pub file_name_hash_alike : (a b : FileName) → name_eq (name_of a) (name_of b) ≡ true → hash_input_of (name_of a) ≡ hash_input_of (name_of b)
+pub file_name_hash_alike : (a b : FileName) →
+    name_eq (name_of a) (name_of b) ≡ true →
+    hash_input_of (name_of a) ≡ hash_input_of (name_of b)
 file_name_hash_alike a b e = ap hash_input_of ((name_eq-Decides (name_of a) (name_of b)).0 e)

@@ -29,7 +29,8 @@ impl Model for ModuleIdGenerator {
 
     ghost view = { λ generator. names_of generator.files.keys };
 
-    ghost invariant = { λ generator. IsDistinct (names_of generator.files.keys) × (length generator.files.keys ≤ 2147483647) };
+    ghost invariant = { λ generator.
+        IsDistinct (names_of generator.files.keys) × (length generator.files.keys ≤ 2147483647) };
 }
 
 impl ModuleIdGenerator {

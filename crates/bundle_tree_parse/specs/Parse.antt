@@ -1,4 +1,5 @@
--- How a list is taken from its front, place by place: what is left of it, where it begins with what stands there.
+-- How a list is taken from its front, place by place: what is left of it, where it begins with what
+-- stands there.
 use Rattle.std.specs.Prelude.{ℕ, zero, suc, Bool, true, false, cond, ◌&&◌, List, [], ◌∷◌, length, Option, Some, None, nat_eq}
 use Rattle.bundle_syntax.specs.declared.piece.Role.{Role}
 use Rattle.bundle_syntax.specs.declared.piece.Role.TheVariants as r
@@ -23,7 +24,8 @@ pub record Opening : Type 0 where
 
 -- the node with which the list begins, if it is in this field
 abbrev pub opened : ℕ → List Item → Option Opening
-opened field (h.Open at head ∷ rest) = cond (nat_eq at field) (Some (record { head = head; inside = rest })) None
+opened field (h.Open at head ∷ rest) =
+    cond (nat_eq at field) (Some (record { head = head; inside = rest })) None
 opened field _ = None
 
 -- whether the list begins in this field
@@ -43,7 +45,8 @@ begins_with_hole _ = false
 
 -- a name in this field, of this role
 abbrev pub after_ident : Role → ℕ → List Item → Option (List Item)
-after_ident role field (h.Ident at sym ctxt found ∷ rest) = cond (nat_eq at field && same_role found role) (Some rest) None
+after_ident role field (h.Ident at sym ctxt found ∷ rest) =
+    cond (nat_eq at field && same_role found role) (Some rest) None
 after_ident role field _ = None
 
 abbrev pub after_name : Option Role → ℕ → List Item → Option (List Item)
@@ -74,7 +77,8 @@ after_maybe one field list = cond (begins_in field list) (one list) (Some list)
 -- as many as there are, up to a number
 abbrev pub after_each : (List Item → Option (List Item)) → ℕ → ℕ → List Item → Option (List Item)
 after_each one field zero list = Some list
-after_each one field (suc most) list = cond (begins_in field list) (then (after_each one field most) (one list)) (Some list)
+after_each one field (suc most) list =
+    cond (begins_in field list) (then (after_each one field most) (one list)) (Some list)
 
 -- a place that may hold nothing
 abbrev pub after_place : (List Item → Option (List Item)) → ℕ → List Item → Option (List Item)
@@ -83,8 +87,10 @@ after_place one field list = cond (begins_with_hole list) (after_hole field list
 abbrev pub after_slot : Taker → Slot → List Item → Option (List Item)
 after_slot taker (slot field One sort) list = taker sort field list
 after_slot taker (slot field Optional sort) list = after_maybe (taker sort field) field list
-after_slot taker (slot field Many sort) list = after_each (taker sort field) field (length list) list
-after_slot taker (slot field Places sort) list = after_each (after_place (taker sort field) field) field (length list) list
+after_slot taker (slot field Many sort) list =
+    after_each (taker sort field) field (length list) list
+after_slot taker (slot field Places sort) list =
+    after_each (after_place (taker sort field) field) field (length list) list
 
 abbrev pub after_slots : Taker → List Slot → List Item → Option (List Item)
 after_slots taker [] list = Some list
@@ -118,7 +124,9 @@ depth_behind depth _ = depth
 -- whether a source comes in the export list that is open, so many nodes deep
 abbrev pub has_source : ℕ → List Item → Bool
 has_source depth [] = false
-has_source depth (item ∷ rest) = cond (is_source depth item) true (cond (is_end depth item) false (has_source (depth_behind depth item) rest))
+has_source depth (item ∷ rest) =
+    cond (is_source depth item) true
+    (cond (is_end depth item) false (has_source (depth_behind depth item) rest))
 
 abbrev pub export_slots : Bool → List Slot
 export_slots true = slot 0 Many (AnExport r.Word) ∷ slot 1 One AString ∷ []

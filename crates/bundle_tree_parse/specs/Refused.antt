@@ -13,4 +13,5 @@ IsListOfNoModule items = (it : Module) → module_items 0 it ≡ items → ⊥
 
 -- no row of properties, each in field 0, has this list
 abbrev pub IsListOfNoProperties : List Item → Type 0
-IsListOfNoProperties items = (list : List (KeyValueProp Expr)) → flat_map (key_value_prop_items 0) list ≡ items → ⊥
+IsListOfNoProperties items =
+    (list : List (KeyValueProp Expr)) → flat_map (key_value_prop_items 0) list ≡ items → ⊥

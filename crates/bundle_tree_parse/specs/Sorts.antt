@@ -1,5 +1,5 @@
--- What may stand where in the list of a tree (ECMA-262, 12 to 16): for each sort of place the nodes and names that
--- it takes, and for each node its fields in their order.
+-- What may stand where in the list of a tree (ECMA-262, 12 to 16): for each sort of place the nodes
+-- and names that it takes, and for each node its fields in their order.
 use Rattle.std.specs.Prelude.{ℕ, Bool, true, false, cond, ◌||◌, List, [], ◌∷◌, Option, Some, None}
 use Rattle.bundle_syntax.specs.declared.piece.Role.{Role}
 use Rattle.bundle_syntax.specs.declared.piece.Role.TheVariants as r
@@ -82,7 +82,8 @@ pub data Sort : Type 0 where
   ALiteral : Sort
   ATextPart : Sort
 
--- how many nodes stand in a field: one; one or none; each number; each number, with places that hold nothing
+-- how many nodes stand in a field: one; one or none; each number; each number, with places that
+-- hold nothing
 pub data Count : Type 0 where
   One : Count
   Optional : Count
@@ -93,8 +94,8 @@ pub data Count : Type 0 where
 pub data Slot : Type 0 where
   slot : ℕ → Count → Sort → Slot
 
--- what a node holds: it may not stand there; its fields; an export list, whose names are words of another module
--- where a source comes after them
+-- what a node holds: it may not stand there; its fields; an export list, whose names are words of
+-- another module where a source comes after them
 pub data Holding : Type 0 where
   Refused : Holding
   Fields : List Slot → Holding
@@ -532,13 +533,15 @@ abbrev pub fields : Role → Head → Holding
 -- modules (ECMA-262, 16.2)
 fields names h.Module = Fields (slot 0 Many AnItem ∷ [])
 fields names (h.ImportDecl meta) = Fields (slot 0 Many AnImport ∷ slot 1 One AString ∷ [])
-fields names h.ImportNamedSpecifier = Fields (slot 0 One (AnIdent r.Binding) ∷ slot 1 Optional (AModuleName r.Word) ∷ [])
+fields names h.ImportNamedSpecifier =
+    Fields (slot 0 One (AnIdent r.Binding) ∷ slot 1 Optional (AModuleName r.Word) ∷ [])
 fields names h.ImportDefaultSpecifier = Fields (slot 0 One (AnIdent r.Binding) ∷ [])
 fields names h.ImportStarAsSpecifier = Fields (slot 0 One (AnIdent r.Binding) ∷ [])
 fields names h.ExportDecl = Fields (slot 0 One ADecl ∷ [])
 fields names (h.NamedExport meta) = Exports
 fields names h.ExportNamespaceSpecifier = Fields (slot 0 One (AModuleName r.Word) ∷ [])
-fields names h.ExportNamedSpecifier = Fields (slot 0 One (AModuleName names) ∷ slot 1 Optional (AModuleName r.Word) ∷ [])
+fields names h.ExportNamedSpecifier =
+    Fields (slot 0 One (AModuleName names) ∷ slot 1 Optional (AModuleName r.Word) ∷ [])
 fields names h.ExportDefaultDecl = Fields (slot 0 One ADefault ∷ [])
 fields names h.ExportDefaultExpr = Fields (slot 0 One AnExpr ∷ [])
 fields names (h.ExportAll meta) = Fields (slot 0 One AString ∷ [])
@@ -555,19 +558,25 @@ fields names h.IfStmt = Fields (slot 0 One AnExpr ∷ slot 1 One AStmt ∷ slot 
 fields names h.SwitchStmt = Fields (slot 0 One AnExpr ∷ slot 1 Many ACase ∷ [])
 fields names h.SwitchCase = Fields (slot 0 Optional AnExpr ∷ slot 1 Many AStmt ∷ [])
 fields names h.ThrowStmt = Fields (slot 0 One AnExpr ∷ [])
-fields names h.TryStmt = Fields (slot 0 One ABlock ∷ slot 1 Optional AHandler ∷ slot 2 Optional ABlock ∷ [])
+fields names h.TryStmt =
+    Fields (slot 0 One ABlock ∷ slot 1 Optional AHandler ∷ slot 2 Optional ABlock ∷ [])
 fields names h.CatchClause = Fields (slot 0 Optional (APattern r.Binding) ∷ slot 1 One ABlock ∷ [])
 fields names h.WhileStmt = Fields (slot 0 One AnExpr ∷ slot 1 One AStmt ∷ [])
 fields names h.DoWhileStmt = Fields (slot 0 One AStmt ∷ slot 1 One AnExpr ∷ [])
-fields names h.ForStmt = Fields (slot 0 Optional AnInit ∷ slot 1 Optional AnExpr ∷ slot 2 Optional AnExpr ∷ slot 3 One AStmt ∷ [])
+fields names h.ForStmt =
+    Fields
+    (slot 0 Optional AnInit ∷ slot 1 Optional AnExpr ∷ slot 2 Optional AnExpr ∷ slot 3 One AStmt
+    ∷ [])
 fields names h.ForInStmt = Fields (slot 0 One ALoopHead ∷ slot 1 One AnExpr ∷ slot 2 One AStmt ∷ [])
-fields names (h.ForOfStmt is_await) = Fields (slot 1 One ALoopHead ∷ slot 2 One AnExpr ∷ slot 3 One AStmt ∷ [])
+fields names (h.ForOfStmt is_await) =
+    Fields (slot 1 One ALoopHead ∷ slot 2 One AnExpr ∷ slot 3 One AStmt ∷ [])
 fields names h.ExprStmt = Fields (slot 0 One AnExpr ∷ [])
 -- declarations (ECMA-262, 14.3, 15.2 and 15.7)
 fields names h.ClassDecl = Fields (slot 0 One (AnIdent r.Binding) ∷ slot 1 One AClass ∷ [])
 fields names h.FnDecl = Fields (slot 0 One (AnIdent r.Binding) ∷ slot 1 One AFunction ∷ [])
 fields names (h.VarDecl kind meta) = Fields (slot 1 Many ADeclarator ∷ [])
-fields names h.VarDeclarator = Fields (slot 0 One (APattern r.Binding) ∷ slot 1 Optional AnExpr ∷ [])
+fields names h.VarDeclarator =
+    Fields (slot 0 One (APattern r.Binding) ∷ slot 1 Optional AnExpr ∷ [])
 -- expressions (ECMA-262, 13)
 fields names h.ThisExpr = Fields []
 fields names h.ArrayLit = Fields (slot 0 Places AnArgument ∷ [])
@@ -586,7 +595,8 @@ fields names h.SeqExpr = Fields (slot 0 Many AnExpr ∷ [])
 fields names h.Tpl = Fields (slot 0 Many AnExpr ∷ slot 1 Many ATextPart ∷ [])
 fields names (h.TplElement raw) = Fields []
 fields names h.TaggedTpl = Fields (slot 0 One AnExpr ∷ slot 1 One ATemplate ∷ [])
-fields names (h.ArrowExpr is_async) = Fields (slot 0 Many (APattern r.Binding) ∷ slot 1 One AnArrowBody ∷ [])
+fields names (h.ArrowExpr is_async) =
+    Fields (slot 0 Many (APattern r.Binding) ∷ slot 1 One AnArrowBody ∷ [])
 fields names h.ClassExpr = Fields (slot 0 Optional (AnIdent r.Binding) ∷ slot 1 One AClass ∷ [])
 fields names (h.YieldExpr delegate) = Fields (slot 0 Optional AnExpr ∷ [])
 fields names (h.MetaPropExpr kind) = Fields []
@@ -610,7 +620,8 @@ fields names (h.Regex raw) = Fields []
 fields names h.SpreadElement = Fields (slot 0 One AnExpr ∷ [])
 fields names h.KeyValueProp = Fields (slot 0 One AKey ∷ slot 1 One AnExpr ∷ [])
 fields names h.GetterProp = Fields (slot 0 One AKey ∷ slot 1 One ABlock ∷ [])
-fields names h.SetterProp = Fields (slot 0 One AKey ∷ slot 1 One (APattern r.Binding) ∷ slot 2 One ABlock ∷ [])
+fields names h.SetterProp =
+    Fields (slot 0 One AKey ∷ slot 1 One (APattern r.Binding) ∷ slot 2 One ABlock ∷ [])
 fields names h.MethodProp = Fields (slot 0 One AKey ∷ slot 1 One AFunction ∷ [])
 fields names h.ComputedPropName = Fields (slot 0 One AnExpr ∷ [])
 -- patterns (ECMA-262, 14.3.3)
@@ -620,16 +631,20 @@ fields names h.ObjectPat = Fields (slot 0 Many (APatternProperty names) ∷ [])
 fields names h.RestPat = Fields (slot 0 One (APattern names) ∷ [])
 fields names h.AssignPat = Fields (slot 0 One (APattern names) ∷ slot 1 One AnExpr ∷ [])
 fields names h.KeyValuePatProp = Fields (slot 0 One AKey ∷ slot 1 One (APattern names) ∷ [])
-fields names h.AssignPatProp = Fields (slot 0 One (ABindingIdent names) ∷ slot 1 Optional AnExpr ∷ [])
+fields names h.AssignPatProp =
+    Fields (slot 0 One (ABindingIdent names) ∷ slot 1 Optional AnExpr ∷ [])
 -- functions and classes (ECMA-262, 15)
-fields names (h.Function is_generator is_async) = Fields (slot 0 Many AParameter ∷ slot 1 One ABlock ∷ [])
+fields names (h.Function is_generator is_async) =
+    Fields (slot 0 Many AParameter ∷ slot 1 One ABlock ∷ [])
 fields names h.Param = Fields (slot 0 One (APattern r.Binding) ∷ [])
 fields names h.Class = Fields (slot 0 Optional AnExpr ∷ slot 1 Many AClassMember ∷ [])
 fields names h.Constructor = Fields (slot 0 Many AParameter ∷ slot 1 One ABlock ∷ [])
 fields names (h.ClassMethod kind is_static) = Fields (slot 0 One AKey ∷ slot 1 One AFunction ∷ [])
-fields names (h.PrivateMethod kind is_static) = Fields (slot 0 One APrivateName ∷ slot 1 One AFunction ∷ [])
+fields names (h.PrivateMethod kind is_static) =
+    Fields (slot 0 One APrivateName ∷ slot 1 One AFunction ∷ [])
 fields names (h.ClassProp is_static) = Fields (slot 0 One AKey ∷ slot 1 Optional AnExpr ∷ [])
-fields names (h.PrivateProp is_static) = Fields (slot 0 One APrivateName ∷ slot 1 Optional AnExpr ∷ [])
+fields names (h.PrivateProp is_static) =
+    Fields (slot 0 One APrivateName ∷ slot 1 Optional AnExpr ∷ [])
 fields names h.StaticBlock = Fields (slot 0 One ABlock ∷ [])
 
 -- what a node of such a head holds where that sort is

@@ -1,5 +1,6 @@
--- What becomes of a part of a tree, by its list, as a relation over its nodes: the way in which a walk over the tree
--- makes it anew. `EditsLemmas` shows that for a whole tree it says what `Rebuilds` does.
+-- What becomes of a part of a tree, by its list, as a relation over its nodes: the way in which a
+-- walk over the tree makes it anew. `EditsLemmas` shows that for a whole tree it says what
+-- `Rebuilds` does.
 use Rattle.std.specs.Prelude.{◌≡◌, ℕ, Bool, true, false, not, List, [], ◌∷◌, ◌++◌, Option, Some, None, drop, if◌then◌else◌}
 use Rattle.bundle_syntax.specs.declared.piece.Role.{Role}
 use Rattle.bundle_syntax.specs.declared.piece.Role.TheVariants as r
@@ -27,7 +28,8 @@ abbrev pub renamed : Option Change → ℕ → Text → ℕ → Role → Item
 renamed None field x ctxt role = h.Ident field x ctxt role
 renamed (Some change) field x ctxt role = h.Ident field change.ident.0 change.ident.1 role
 
--- what stands around: an object literal, where an identifier is short for `x: x`; an import or export specifier that has but this one name; or anything else, where an identifier is just a name
+-- what stands around: an object literal, where an identifier is short for `x: x`; an import or
+-- export specifier that has but this one name; or anything else, where an identifier is just a name
 pub data Around : Type 0 where
   Anywhere : Around
   InObject : Around
@@ -77,16 +79,21 @@ in_its_place InSpecifier change field x ctxt role =
 abbrev pub binding : Option Change → ℕ → Text → ℕ → Role → List Item
 binding change field x ctxt role = node field h.BindingIdent (renamed change 0 x ctxt role ∷ [])
 
--- the pattern that a shorthand is spelled out with: `{ x }` is `{ x: y }`, and `{ x = e }` is `{ x: y = e }`
-abbrev pub pattern_in_its_place : Option Change → Text → ℕ → Role → (default : List Item) → List Item
+-- the pattern that a shorthand is spelled out with: `{ x }` is `{ x: y }`, and `{ x = e }` is `{ x:
+-- y = e }`
+abbrev pub pattern_in_its_place :
+    Option Change → Text → ℕ → Role → (default : List Item) → List Item
 pattern_in_its_place change x ctxt role [] = binding change 1 x ctxt role
-pattern_in_its_place change x ctxt role default = node 1 h.AssignPat (binding change 0 x ctxt role ++ default)
+pattern_in_its_place change x ctxt role default =
+    node 1 h.AssignPat (binding change 0 x ctxt role ++ default)
 
 -- what stands in the place of a shorthand property of a pattern, with or without a default value
-abbrev pub shorthand_in_its_place : Option Change → ℕ → Text → ℕ → Role → (default : List Item) → List Item
+abbrev pub shorthand_in_its_place :
+    Option Change → ℕ → Text → ℕ → Role → (default : List Item) → List Item
 shorthand_in_its_place change field x ctxt role default =
     if spells_out change
-    then node field h.KeyValuePatProp (plain_key x ++ pattern_in_its_place change x ctxt role default)
+    then node field h.KeyValuePatProp
+    (plain_key x ++ pattern_in_its_place change x ctxt role default)
     else node field h.AssignPatProp (binding change 0 x ctxt role ++ default)
 
 -- With these changes, what stands here becomes that, and these changes are left for what follows.
@@ -94,7 +101,9 @@ pub data Edits : Around → List Change → List Item → List Item → List Cha
   -- where nothing stands
   Nothing : {around : Around} {changes : List Change} → Edits around changes [] [] changes
   -- one after the other
-  Joined : {around : Around} {changes between rest : List Change} {first made_first second made_second : List Item} →
+  Joined :
+      {around : Around} {changes between rest : List Change}
+      {first made_first second made_second : List Item} →
       Edits around changes first made_first between →
       Edits around between second made_second rest →
       Edits around changes (first ++ second) (made_first ++ made_second) rest
@@ -108,19 +117,26 @@ pub data Edits : Around → List Change → List Item → List Item → List Cha
   -- an occurrence takes the next change
   Name : (around : Around) {changes : List Change} (field : ℕ) (x : Text) (ctxt : ℕ) (role : Role) →
       is_occurrence role ≡ true →
-      Edits around changes (h.Ident field x ctxt role ∷ []) (in_its_place around (next changes) field x ctxt role) (drop 1 changes)
+      Edits around changes (h.Ident field x ctxt role ∷ [])
+      (in_its_place around (next changes) field x ctxt role) (drop 1 changes)
   -- a node stays, and what is in it is edited
-  Inside : {around : Around} {changes rest : List Change} (field : ℕ) (head : Head) {inside made : List Item} →
+  Inside :
+      {around : Around} {changes rest : List Change} (field : ℕ) (head : Head)
+      {inside made : List Item} →
       is_plain head inside ≡ true →
       Edits (around_in head inside) changes inside made rest →
       Edits around changes (node field head inside) (node field head made) rest
   -- a shorthand property of a pattern takes the next change for its name
-  Shorthand : {around : Around} {changes rest : List Change} (field : ℕ) (x : Text) (ctxt : ℕ) (role : Role) {default made : List Item} →
+  Shorthand :
+      {around : Around} {changes rest : List Change} (field : ℕ) (x : Text) (ctxt : ℕ) (role : Role)
+      {default made : List Item} →
       is_occurrence role ≡ true →
       Edits Anywhere (drop 1 changes) default made rest →
-      Edits around changes (node field h.AssignPatProp (binding None 0 x ctxt role ++ default)) (shorthand_in_its_place (next changes) field x ctxt role made) rest
+      Edits around changes (node field h.AssignPatProp (binding None 0 x ctxt role ++ default))
+      (shorthand_in_its_place (next changes) field x ctxt role made) rest
 
--- the items of a tree with these changes of its occurrences in turn; where no change is left, an occurrence stays
+-- the items of a tree with these changes of its occurrences in turn; where no change is left, an
+-- occurrence stays
 pub record Edited (changes : List Change) (before after : List Item) : Type 0 where
   pub rest : List Change
   pub by : Edits Anywhere changes before after rest

@@ -4,7 +4,8 @@ use Rattle.bundle_rules.specs.Nodes.{begins_in}
 use Rattle.bundle_syntax.specs.Item as h
 use Rattle.bundle_syntax.specs.Item.{Item, Head}
 
--- how many nodes are open after an element, where so many are before it; none where it ends the first node
+-- how many nodes are open after an element, where so many are before it; none where it ends the
+-- first node
 abbrev pub depth_past : ℕ → Item → Option ℕ
 depth_past depth (h.Open field head) = Some (suc depth)
 depth_past zero (h.Ident field sym ctxt role) = None
@@ -18,7 +19,8 @@ depth_past (suc (suc depth)) h.Close = Some (suc depth)
 -- the length of the first node, or of what is left of it where so many nodes are open
 abbrev pub length_of_first : ℕ → List Item → ℕ
 length_of_first depth [] = zero
-length_of_first depth (x ∷ rest) = elim (depth_past depth x) [ None ↦ suc zero | Some inner ↦ suc (length_of_first inner rest) ]
+length_of_first depth (x ∷ rest) =
+    elim (depth_past depth x) [ None ↦ suc zero | Some inner ↦ suc (length_of_first inner rest) ]
 
 -- whether a node begins the list
 abbrev pub begins_node : List Item → Bool

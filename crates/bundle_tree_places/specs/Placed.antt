@@ -37,7 +37,8 @@ read_in path word = if is_written_to path || is_optional_base path then None els
 abbrev pub no_told : ReadAt
 no_told = record { word = None; is_stated = false }
 
--- what is told of a place: the word of the read that begins there, and whether what stands there lies in a top item that states something
+-- what is told of a place: the word of the read that begins there, and whether what stands there
+-- lies in a top item that states something
 pub record IsTold (tree : List Item) (place : ℕ) (told : ReadAt) : Type 0 where
   pub word : text_of told.word ≡ read_word tree place
   pub stated : (field : ℕ) →
@@ -46,7 +47,8 @@ pub record IsTold (tree : List Item) (place : ℕ) (told : ReadAt) : Type 0 wher
 
 -- so it is of each place
 abbrev pub AreTold : List Item → List ReadAt → Type 0
-AreTold tree told = (place : ℕ) → place < length tree → IsTold tree place (slice_index_or told place no_told)
+AreTold tree told =
+    (place : ℕ) → place < length tree → IsTold tree place (slice_index_or told place no_told)
 
 -- the word that is told of a place
 abbrev pub word_told : List ReadAt → ℕ → Option Text

@@ -6,15 +6,21 @@ use Rattle.bundle_syntax.specs.Item.{Item}
 use Rattle.bundle_rules.specs.Nodes.{Text}
 use Rattle.bundle_rules.specs.Reads.{is_member, plain_word}
 
--- where the first element in the second field of a node begins, of what follows from a place on, where so many nodes are still open in it
+-- where the first element in the second field of a node begins, of what follows from a place on,
+-- where so many nodes are still open in it
 abbrev pub second_from : ℕ → ℕ → List Item → Option ℕ
 second_from depth place [] = None
-second_from zero place (h.Open field head ∷ rest) = cond (nat_eq field 1) (Some place) (second_from (suc zero) (place + 1) rest)
-second_from zero place (h.Ident field sym ctxt role ∷ rest) = cond (nat_eq field 1) (Some place) (second_from zero (place + 1) rest)
-second_from zero place (h.Hole field ∷ rest) = cond (nat_eq field 1) (Some place) (second_from zero (place + 1) rest)
+second_from zero place (h.Open field head ∷ rest) =
+    cond (nat_eq field 1) (Some place) (second_from (suc zero) (place + 1) rest)
+second_from zero place (h.Ident field sym ctxt role ∷ rest) =
+    cond (nat_eq field 1) (Some place) (second_from zero (place + 1) rest)
+second_from zero place (h.Hole field ∷ rest) =
+    cond (nat_eq field 1) (Some place) (second_from zero (place + 1) rest)
 second_from zero place (h.Close ∷ rest) = None
-second_from (suc depth) place (h.Open field head ∷ rest) = second_from (suc (suc depth)) (place + 1) rest
-second_from (suc depth) place (h.Ident field sym ctxt role ∷ rest) = second_from (suc depth) (place + 1) rest
+second_from (suc depth) place (h.Open field head ∷ rest) =
+    second_from (suc (suc depth)) (place + 1) rest
+second_from (suc depth) place (h.Ident field sym ctxt role ∷ rest) =
+    second_from (suc depth) (place + 1) rest
 second_from (suc depth) place (h.Hole field ∷ rest) = second_from (suc depth) (place + 1) rest
 second_from (suc depth) place (h.Close ∷ rest) = second_from depth (place + 1) rest
 
@@ -24,7 +30,8 @@ second_of items place = second_from zero (place + 1) (drop (place + 1) items)
 
 -- for each place that is told
 abbrev pub AreSeconds : List Item → List (Option ℕ) → Type 0
-AreSeconds items seconds = (p : ℕ) → p < length items → slice_index_or seconds p None ≡ second_of items p
+AreSeconds items seconds =
+    (p : ℕ) → p < length items → slice_index_or seconds p None ≡ second_of items p
 
 -- on a stack, the top first, stand these
 abbrev pub AreTops : List (Option ℕ) → (ℕ → Option ℕ) → Type 0

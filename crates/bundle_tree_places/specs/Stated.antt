@@ -12,13 +12,15 @@ states_nothing (h.ExportAll meta) = true
 states_nothing h.EmptyStmt = true
 states_nothing _ = false
 
--- whether what stands in a node with this head, in these nodes, lies in a top item that states something
+-- whether what stands in a node with this head, in these nodes, lies in a top item that states
+-- something
 abbrev pub is_stated_in : Head → List Around → Bool
 is_stated_in head [] = true
 is_stated_in head (tree ∷ []) = not (states_nothing head)
 is_stated_in head (node ∷ next ∷ outer) = is_stated_in node.head (next ∷ outer)
 
--- whether these nodes, innermost first, lie in a top item that states something: the last is the module, the one before it the top item
+-- whether these nodes, innermost first, lie in a top item that states something: the last is the
+-- module, the one before it the top item
 abbrev pub is_in_statement : List Around → Bool
 is_in_statement [] = false
 is_in_statement (node ∷ outer) = is_stated_in node.head outer

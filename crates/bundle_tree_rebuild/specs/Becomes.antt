@@ -1,6 +1,6 @@
--- What becomes of a part of a tree, by its list, as a relation over its nodes: the way in which a walk over the tree
--- makes it anew. With plain changes it is what `Edits` says. What stands around a name and what stands in its place
--- is taken from there.
+-- What becomes of a part of a tree, by its list, as a relation over its nodes: the way in which a
+-- walk over the tree makes it anew. With plain changes it is what `Edits` says. What stands around
+-- a name and what stands in its place is taken from there.
 use Rattle.std.specs.Prelude.{◌≡◌, ℕ, zero, suc, ◌==◌, Bool, true, false, not, is_none, List, [], ◌∷◌, ◌++◌, Option, Some, None, if◌then◌else◌}
 use Rattle.bundle_syntax.specs.declared.kind.ExportMetadata.{ExportMetadata}
 use Rattle.bundle_syntax.specs.declared.kind.MetaPropKind.{MetaPropKind}
@@ -24,7 +24,8 @@ abbrev pub behind_word : Option (List Item) → Option (List Item)
 behind_word (Some (h.Open field (h.IdentName word) ∷ h.Close ∷ h.Close ∷ rest)) = Some rest
 behind_word _ = None
 
--- what stands behind an identifier that refers with so many static reads around it, as `a.b.c` with 2, if these elements begin with one
+-- what stands behind an identifier that refers with so many static reads around it, as `a.b.c` with
+-- 2, if these elements begin with one
 abbrev pub behind_reads : ℕ → List Item → Option (List Item)
 behind_reads zero (h.Ident field x ctxt r.Reference ∷ rest) = Some rest
 behind_reads (suc count) (h.Open field h.MemberExpr ∷ rest) = behind_word (behind_reads count rest)
@@ -41,7 +42,10 @@ are_reads count inside = is_end (behind_reads count (node 0 h.MemberExpr inside)
 
 -- whether these elements are one string as an argument, not spread
 abbrev pub is_one_string : List Item → Bool
-is_one_string (h.Open field (h.ExprOrSpread false) ∷ h.Open inner (h.Str value raw) ∷ h.Close ∷ h.Close ∷ []) = true
+is_one_string
+    (h.Open field (h.ExprOrSpread false) ∷ h.Open inner (h.Str value raw) ∷ h.Close ∷ h.Close ∷ [])
+    =
+    true
 is_one_string _ = false
 
 -- whether what is in a call is an identifier that refers and is called, and one string
@@ -49,7 +53,8 @@ abbrev pub is_literal_call : (inside : List Item) → Bool
 is_literal_call (h.Ident field x ctxt r.Reference ∷ arguments) = is_one_string arguments
 is_literal_call _ = false
 
--- the name that stands for a member expression, if one does: it is as many static reads around the next occurrence as that asks for
+-- the name that stands for a member expression, if one does: it is as many static reads around the
+-- next occurrence as that asks for
 abbrev pub name_of_reads : Ident → Whole → (inside : List Item) → Option Ident
 name_of_reads name (w.Reads count) inside = if are_reads count inside then Some name else None
 name_of_reads name w.Alone inside = None
@@ -92,7 +97,8 @@ abbrev pub kept_notes : (clears_notes : Bool) → ExportMetadata → ExportMetad
 kept_notes true notes = no_notes
 kept_notes false notes = notes
 
--- whether no name may stand for what is first in a node, in this field: what is assigned to, and what begins an optional chain
+-- whether no name may stand for what is first in a node, in this field: what is assigned to, and
+-- what begins an optional chain
 abbrev pub keeps_first : Head → ℕ → Bool
 keeps_first (h.AssignExpr op) field = field == 1
 keeps_first (h.OptChainExpr optional) field = field == 1
@@ -118,7 +124,9 @@ pub data Becomes : Around → Work → List Item → List Item → Work → Type
   -- where nothing stands
   Nothing : {around : Around} {work : Work} → Becomes around work [] [] work
   -- one after the other
-  Joined : {around : Around} {work between rest : Work} {first made_first second made_second : List Item} →
+  Joined :
+      {around : Around} {work between rest : Work} {first made_first second made_second : List Item}
+      →
       Becomes around work first made_first between →
       Becomes around between second made_second rest →
       Becomes around work (first ++ second) (made_first ++ made_second) rest
@@ -132,35 +140,49 @@ pub data Becomes : Around → Work → List Item → List Item → Work → Type
   -- an occurrence gets its name
   Name : (around : Around) {work : Work} (field : ℕ) (x : Text) (ctxt : ℕ) (role : Role) →
       is_occurrence role ≡ true →
-      Becomes around work (h.Ident field x ctxt role ∷ []) (in_its_place around (next work x) field x ctxt role) (after work)
+      Becomes around work (h.Ident field x ctxt role ∷ [])
+      (in_its_place around (next work x) field x ctxt role) (after work)
   -- a node stays, and what is in it is made anew
-  Inside : {around : Around} {work rest : Work} (field : ℕ) (head : Head) {inside made : List Item} →
+  Inside :
+      {around : Around} {work rest : Work} (field : ℕ) (head : Head) {inside made : List Item} →
       stays work head inside ≡ true →
       Becomes (around_in head inside) work inside made rest →
       Becomes around work (node field head inside) (node field head made) rest
   -- the same of a declaration of variables, whose notes may be cleared
-  Declaration : {around : Around} {work rest : Work} (field : ℕ) (kind : VarDeclKind) (notes : ExportMetadata) {inside made : List Item} →
+  Declaration :
+      {around : Around} {work rest : Work} (field : ℕ) (kind : VarDeclKind) (notes : ExportMetadata)
+      {inside made : List Item} →
       Becomes Anywhere work inside made rest →
-      Becomes around work (node field (h.VarDecl kind notes) inside) (node field (h.VarDecl kind (kept_notes work.clears_notes notes)) made) rest
-  -- the same where the first of what is in a node is a member expression for which no name may stand
-  Kept : {around : Around} {work between rest : Work} (field : ℕ) (head : Head) (first : ℕ) {inside made more made_more : List Item} →
+      Becomes around work (node field (h.VarDecl kind notes) inside)
+      (node field (h.VarDecl kind (kept_notes work.clears_notes notes)) made) rest
+  -- the same where the first of what is in a node is a member expression for which no name may
+  -- stand
+  Kept :
+      {around : Around} {work between rest : Work} (field : ℕ) (head : Head) (first : ℕ)
+      {inside made more made_more : List Item} →
       keeps_first head first ≡ true →
       Becomes Anywhere work inside made between →
       Becomes Anywhere between more made_more rest →
-      Becomes around work (node field head (node first h.MemberExpr inside ++ more)) (node field head (node first h.MemberExpr made ++ made_more)) rest
+      Becomes around work (node field head (node first h.MemberExpr inside ++ more))
+      (node field head (node first h.MemberExpr made ++ made_more)) rest
   -- a shorthand property of a pattern gets the next name
-  Shorthand : {around : Around} {work rest : Work} (field : ℕ) (x : Text) (ctxt : ℕ) (role : Role) {default made : List Item} →
+  Shorthand :
+      {around : Around} {work rest : Work} (field : ℕ) (x : Text) (ctxt : ℕ) (role : Role)
+      {default made : List Item} →
       is_occurrence role ≡ true →
       Becomes Anywhere (after work) default made rest →
-      Becomes around work (node field h.AssignPatProp (binding None 0 x ctxt role ++ default)) (shorthand_in_its_place (next work x) field x ctxt role made) rest
-  -- a name stands for static reads; in an object literal it would be a shorthand, but no read stands there without a key
+      Becomes around work (node field h.AssignPatProp (binding None 0 x ctxt role ++ default))
+      (shorthand_in_its_place (next work x) field x ctxt role made) rest
+  -- a name stands for static reads; in an object literal it would be a shorthand, but no read
+  -- stands there without a key
   OfReads : {work : Work} (field : ℕ) (name : Ident) (inside : List Item) →
       name_for_member (upcoming work) inside ≡ Some name →
       Becomes Anywhere work (node field h.MemberExpr inside) (reference field name) (after work)
   -- a call of a name stands for a literal call
   OfCall : {around : Around} {work : Work} (field : ℕ) (name : Ident) (inside : List Item) →
       name_for_call (upcoming work) inside ≡ Some name →
-      Becomes around work (node field h.CallExpr inside) (node field h.CallExpr (reference 0 name)) (after work)
+      Becomes around work (node field h.CallExpr inside) (node field h.CallExpr (reference 0 name))
+      (after work)
   -- a name stands for `import.meta`, which has a key in an object literal too
   OfMeta : {work : Work} (field : ℕ) (kind : MetaPropKind) (name : Ident) →
       name_for_meta work.meta kind ≡ Some name →

@@ -15,13 +15,15 @@ use Rattle.bundle_tree_rebuild.specs.declared.work.Step as r_step
 use Rattle.bundle_tree_rebuild.specs.declared.work.Steps.{Steps}
 use Rattle.bundle_tree_rebuild.specs.declared.work.Steps.TheVariants as m
 
--- what becomes of an occurrence: the identifier that is to stand there, when what is short is spelled out there, and how much of what is around it the identifier stands for
+-- what becomes of an occurrence: the identifier that is to stand there, when what is short is
+-- spelled out there, and how much of what is around it the identifier stands for
 pub record Step : Type 0 where
   pub ident : Ident
   pub spelling : Spelling
   pub whole : Whole
 
--- what becomes of the occurrences in turn; the identifier that `import.meta` becomes, if it becomes one; and whether the notes of declarations are cleared
+-- what becomes of the occurrences in turn; the identifier that `import.meta` becomes, if it becomes
+-- one; and whether the notes of declarations are cleared
 pub record Work : Type 0 where
   pub steps : List Step
   pub meta : Option Ident
@@ -33,16 +35,19 @@ upcoming work = slice_get work.steps 0
 
 -- what is left behind the next occurrence
 abbrev pub after : Work → Work
-after work = record { steps = drop 1 work.steps; meta = work.meta; clears_notes = work.clears_notes }
+after work =
+    record { steps = drop 1 work.steps; meta = work.meta; clears_notes = work.clears_notes }
 
--- whether what is short is spelled out where an identifier of this symbol is to stand in the place of one of the symbol `x`
+-- whether what is short is spelled out where an identifier of this symbol is to stand in the place
+-- of one of the symbol `x`
 abbrev pub is_spelled_out_by : Spelling → (sym x : Text) → Bool
 is_spelled_out_by (s.Fixed is_spelled_out) sym x = is_spelled_out
 is_spelled_out_by s.BySymbol sym x = not (bytes_eq sym x)
 
 -- the change of an occurrence of the symbol `x`
 abbrev pub change_at : Text → Step → Change
-change_at x step = record { ident = step.ident; is_spelled_out = is_spelled_out_by step.spelling step.ident.0 x }
+change_at x step =
+    record { ident = step.ident; is_spelled_out = is_spelled_out_by step.spelling step.ident.0 x }
 
 -- the change of the next occurrence, which is one of `x`
 abbrev pub next : Work → Text → Option Change
@@ -50,7 +55,8 @@ next work x = option_map (change_at x) (upcoming work)
 
 -- just these changes of the occurrences in turn, and all else stays
 abbrev pub plain_step : Change → Step
-plain_step change = record { ident = change.ident; spelling = s.Fixed change.is_spelled_out; whole = w.Alone }
+plain_step change =
+    record { ident = change.ident; spelling = s.Fixed change.is_spelled_out; whole = w.Alone }
 
 abbrev pub plain : List Change → Work
 plain changes = record { steps = map plain_step changes; meta = None; clears_notes = false }
@@ -59,15 +65,23 @@ plain changes = record { steps = map plain_step changes; meta = None; clears_not
 
 -- a rewrite: what is short is spelled out where the symbol changes
 abbrev pub rewrite_step : r_rewrite.Rewrite → Step
-rewrite_step rewrite = record { ident = ident_of rewrite.name; spelling = s.BySymbol; whole = rewrite.whole }
+rewrite_step rewrite =
+    record { ident = ident_of rewrite.name; spelling = s.BySymbol; whole = rewrite.whole }
 
 -- what a `Rewriting` asks for
 abbrev pub work_of : r_rewriting.Rewriting → Work
-work_of rewriting = record { steps = map rewrite_step rewriting.rewrites.now; meta = option_map ident_of rewriting.meta; clears_notes = true }
+work_of rewriting =
+    record {
+      steps = map rewrite_step rewriting.rewrites.now;
+      meta = option_map ident_of rewriting.meta;
+      clears_notes = true;
+    }
 
 -- a change
 abbrev pub change_step : r_change.Change → Step
-change_step change = record { ident = ident_of change.ident; spelling = s.Fixed change.is_spelled_out; whole = w.Alone }
+change_step change =
+    record
+    { ident = ident_of change.ident; spelling = s.Fixed change.is_spelled_out; whole = w.Alone }
 
 -- what the code takes of either
 abbrev pub step_of : r_step.Step → Step

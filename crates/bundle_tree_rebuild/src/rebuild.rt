@@ -50,7 +50,12 @@ impl<'r, 'c> Model for Rebuild<'r, 'c> {
 
     ghost Value = { Work };
 
-    ghost view = { λ it. record { steps = steps_of it.left; meta = option_map ident_of it.import_meta; clears_notes = it.has_notes_cleared } };
+    ghost view = { λ it.
+        record {
+          steps = steps_of it.left;
+          meta = option_map ident_of it.import_meta;
+          clears_notes = it.has_notes_cleared;
+        } };
 }
 
 impl<'r, 'c> Rebuild<'r, 'c> {

@@ -16,7 +16,8 @@ naming_of name = record { sym = option_map (λ sym. sym.now) name.sym; ctxt = na
 
 -- what becomes of an identifier, as a change: what is short is spelled out where the symbol changes
 abbrev pub change_at : Ident → Naming → Change
-change_at ident naming = change_to ident (unwrap_or naming.sym ident.0, unwrap_or naming.ctxt ident.1)
+change_at ident naming =
+    change_to ident (unwrap_or naming.sym ident.0, unwrap_or naming.ctxt ident.1)
 
 -- the change of the next occurrence, which is this identifier
 abbrev pub next : List Naming → Text → ℕ → Option Change

@@ -36,7 +36,8 @@ boxed_pat_items role field it = pat_items role field it.value
 -- a pattern with its default value, if it has one
 abbrev pub with_default_items : Role → ℕ → v_pat.Pat → Option v_expr.Expr → List Item
 with_default_items role field left None = pat_items role field left
-with_default_items role field left (Some right) = node field h.AssignPat (pat_items role 0 left ++ expr_items 1 right)
+with_default_items role field left (Some right) =
+    node field h.AssignPat (pat_items role 0 left ++ expr_items 1 right)
 
 -- a name that is a plain word, or a string
 abbrev pub word_items : ℕ → v_module_export_name.ModuleExportName → List Item
@@ -45,7 +46,8 @@ word_items field it = module_export_name_items r.Word field it
 abbrev pub option_word_items : ℕ → Option v_module_export_name.ModuleExportName → List Item
 option_word_items field it = option_items (word_items field) it
 
-abbrev pub each_import_specifier_items : ℕ → Vec v_import_specifier.ImportSpecifier Global → List Item
+abbrev pub each_import_specifier_items :
+    ℕ → Vec v_import_specifier.ImportSpecifier Global → List Item
 each_import_specifier_items field it = flat_map (import_specifier_items field) it.items
 
 -- what the names of an export list are: names of this module, or else of the one that `from` gives
@@ -53,14 +55,16 @@ abbrev pub role_of : (is_own : Bool) → Role
 role_of true = r.Reference
 role_of false = r.Word
 
-abbrev pub each_export_specifier_items : Role → ℕ → Vec v_export_specifier.ExportSpecifier Global → List Item
+abbrev pub each_export_specifier_items :
+    Role → ℕ → Vec v_export_specifier.ExportSpecifier Global → List Item
 each_export_specifier_items role field it = flat_map (export_specifier_items role field) it.items
 
 abbrev pub each_module_item_items : ℕ → Vec v_module_item.ModuleItem Global → List Item
 each_module_item_items field it = flat_map (module_item_items field) it.items
 
 -- the other name of a specifier; where it has none, what was its only name if that is spelled out
-abbrev pub second_name_items : Option v_module_export_name.ModuleExportName → (is_spelled_out : Bool) → (only : v_ident.Ident) → List Item
+abbrev pub second_name_items : Option v_module_export_name.ModuleExportName →
+    (is_spelled_out : Bool) → (only : v_ident.Ident) → List Item
 second_name_items (Some name) is_spelled_out only = word_items 1 name
 second_name_items None true only = h.Ident 1 (string_bytes only.sym) 0 r.Word ∷ []
 second_name_items None false only = []

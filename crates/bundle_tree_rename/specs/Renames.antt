@@ -1,5 +1,6 @@
--- What becomes of a part of a tree, by its list, where its identifiers are called otherwise, as a relation over its
--- nodes. What stands around a name and what stands in its place is taken from `Edits`.
+-- What becomes of a part of a tree, by its list, where its identifiers are called otherwise, as a
+-- relation over its nodes. What stands around a name and what stands in its place is taken from
+-- `Edits`.
 use Rattle.std.specs.Prelude.{◌≡◌, ℕ, true, false, List, [], ◌∷◌, ◌++◌, None, drop}
 use Rattle.bundle_rules.specs.Nodes.{Text}
 use Rattle.bundle_syntax.specs.declared.piece.Role.{Role}
@@ -13,7 +14,9 @@ pub data Renames : Around → List Naming → List Item → List Item → List N
   -- where nothing stands
   Nothing : {around : Around} {names : List Naming} → Renames around names [] [] names
   -- one after the other
-  Joined : {around : Around} {names between rest : List Naming} {first made_first second made_second : List Item} →
+  Joined :
+      {around : Around} {names between rest : List Naming}
+      {first made_first second made_second : List Item} →
       Renames around names first made_first between →
       Renames around between second made_second rest →
       Renames around names (first ++ second) (made_first ++ made_second) rest
@@ -27,14 +30,20 @@ pub data Renames : Around → List Naming → List Item → List Item → List N
   -- an occurrence gets its name
   Name : (around : Around) {names : List Naming} (field : ℕ) (x : Text) (ctxt : ℕ) (role : Role) →
       is_occurrence role ≡ true →
-      Renames around names (h.Ident field x ctxt role ∷ []) (in_its_place around (next names x ctxt) field x ctxt role) (drop 1 names)
+      Renames around names (h.Ident field x ctxt role ∷ [])
+      (in_its_place around (next names x ctxt) field x ctxt role) (drop 1 names)
   -- a node stays, and what is in it is renamed
-  Inside : {around : Around} {names rest : List Naming} (field : ℕ) (head : Head) {inside made : List Item} →
+  Inside :
+      {around : Around} {names rest : List Naming} (field : ℕ) (head : Head)
+      {inside made : List Item} →
       is_plain head inside ≡ true →
       Renames (around_in head inside) names inside made rest →
       Renames around names (node field head inside) (node field head made) rest
   -- a shorthand property of a pattern gets the next name
-  Shorthand : {around : Around} {names rest : List Naming} (field : ℕ) (x : Text) (ctxt : ℕ) (role : Role) {default made : List Item} →
+  Shorthand :
+      {around : Around} {names rest : List Naming} (field : ℕ) (x : Text) (ctxt : ℕ) (role : Role)
+      {default made : List Item} →
       is_occurrence role ≡ true →
       Renames Anywhere (drop 1 names) default made rest →
-      Renames around names (node field h.AssignPatProp (binding None 0 x ctxt role ++ default)) (shorthand_in_its_place (next names x ctxt) field x ctxt role made) rest
+      Renames around names (node field h.AssignPatProp (binding None 0 x ctxt role ++ default))
+      (shorthand_in_its_place (next names x ctxt) field x ctxt role made) rest

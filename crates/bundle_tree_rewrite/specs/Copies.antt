@@ -11,7 +11,8 @@ IsCopyBy items old new = (field : ℕ) → IsCopy (items field old) (items field
 
 -- the same of a pattern, whose names bind or refer
 abbrev pub IsPatternCopyBy : {A : Type 0} → (Role → ℕ → A → List Item) → A → A → Type 0
-IsPatternCopyBy items old new = (role : Role) → is_occurrence role ≡ true → IsCopyBy (items role) old new
+IsPatternCopyBy items old new =
+    (role : Role) → is_occurrence role ≡ true → IsCopyBy (items role) old new
 
 -- the same of a name, in whatever role
 abbrev pub IsNameCopyBy : {A : Type 0} → (Role → ℕ → A → List Item) → A → A → Type 0

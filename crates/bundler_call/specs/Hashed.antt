@@ -36,7 +36,9 @@ or_else (Some place) other = Some place
 pub record AreHashed {K : Type 0} (cmp : K → K → Ordering) (eq : K → K → Bool) (hash : K → ℕ)
     (keys : List K) (firsts : BTreeMap ℕ ℕ) (others : BTreeMap K ℕ) : Type 0 where
   pub once : StandOnce eq keys
-  pub found : (key : K) → or_else (first_at eq key keys (get nat_cmp firsts (hash key))) (get cmp others key) ≡ position (eq key) keys
+  pub found : (key : K) →
+      or_else (first_at eq key keys (get nat_cmp firsts (hash key))) (get cmp others key)
+      ≡ position (eq key) keys
 
 -- the same of texts
 abbrev pub AreTexts : List (String Global) → BTreeMap ℕ ℕ → BTreeMap (String Global) ℕ → Type 0

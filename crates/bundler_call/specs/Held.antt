@@ -5,8 +5,9 @@ use Rattle.bundle_tree_names.specs.declared.file_name.FileName.{FileName}
 use Rattle.bundle_rules.specs.Kept.{Asked}
 use Rattle.bundle_rules.specs.Nodes.{Text}
 
--- the files that were met, in the order of meeting; the trees in the order of loading, each with its file; the requests
--- that have a number; the files that requests lead to; and for how many more trees and requests there is room
+-- the files that were met, in the order of meeting; the trees in the order of loading, each with
+-- its file; the requests that have a number; the files that requests lead to; and for how many more
+-- trees and requests there is room
 pub record HeldFiles (M : Type 0) : Type 0 where
   pub names : List Name
   pub trees : List (Name × M)
@@ -43,8 +44,8 @@ resolved_by asked targets = map (λ e. (asked_at asked e.0, name_of e.1)) target
 abbrev pub AreBelow : {X : Type 0} → ℕ → List (ℕ × X) → Type 0
 AreBelow {X} count list = (i : ℕ) (e : ℕ × X) → slice_get list i ≡ Some e → e.0 < count
 
--- requests and trees are of files that have a number, and a file that is led to is that of a request that has one; no more
--- files were met than there are numbers
+-- requests and trees are of files that have a number, and a file that is led to is that of a
+-- request that has one; no more files were met than there are numbers
 pub record AreNumbered {M : Type 0} (files : List (Bool × Text)) (trees : List (ℕ × M))
     (requests : List (ℕ × Text)) (targets : List (ℕ × FileName)) : Type 0 where
   pub bounded : length files ≤ 2147483647

@@ -18,22 +18,26 @@ use Rattle.bundler_call.specs.Answer.{bundled_of}
 use Rattle.bundler_call.specs.Kept.{entry_of, parties_of, settings_of}
 use Rattle.bundler_call.specs.declared.bundle.Bundle.{Bundle}
 
--- one step of the judging is what the result says: it was made, or is refused by the fault that is told; want of memory tells of none
+-- one step of the judging is what the result says: it was made, or is refused by the fault that is
+-- told; want of memory tells of none
 abbrev pub Tells : {T : Type 0} → Result T Error → (Outcome → Type 0) → Type 0
 Tells (Ok x) step = step GoesOn
 Tells (Err refusal) step = IfSome (fault_of refusal) (λ fault. step (Refused fault))
 
--- how a part of the judging is refused: by the fault that is told, or, where none is, since a growth was refused
+-- how a part of the judging is refused: by the fault that is told, or, where none is, since a
+-- growth was refused
 abbrev pub refused_by : Option Fault → Outcome
 refused_by (Some fault) = Refused fault
 refused_by None = Stopped
 
--- a part of the judging ends as the result says: it goes on, is refused by the fault that is told, or stops for want of memory
+-- a part of the judging ends as the result says: it goes on, is refused by the fault that is told,
+-- or stops for want of memory
 abbrev pub EndsJudging : {T : Type 0} → Result T Error → (Outcome → Type 0) → Type 0
 EndsJudging (Ok x) part = part GoesOn
 EndsJudging (Err refusal) part = part (refused_by (fault_of refusal))
 
--- as far as a part of the judging goes on, what is judged after it is judged of the whole; where it is refused or stops, the whole does
+-- as far as a part of the judging goes on, what is judged after it is judged of the whole; where it
+-- is refused or stops, the whole does
 abbrev pub LeadsOn : {T : Type 0} → Result T Error → (whole rest : Outcome → Kept → Type 0) → Kept →
     Type 0
 LeadsOn (Ok x) whole rest new = (outcome : Outcome) (last : Kept) → rest outcome last →
@@ -44,7 +48,8 @@ LeadsOn (Err refusal) whole rest new = whole (refused_by (fault_of refusal)) new
 abbrev pub parties_asked : {L R : Type 0} → (L → Name → ModuleData → Type 0) → (L → Name → Type 0) →
     (R → Name → List ℕ → Name → Type 0) → (R → Name → List ℕ → Type 0) → L → R → Parties
 parties_asked may_load may_fail_load may_resolve may_fail_resolve loader resolver =
-    parties_of (may_load loader) (may_fail_load loader) (may_resolve resolver) (may_fail_resolve resolver) (λ file is_entry properties. ⊥) (λ file is_entry. ⊥)
+    parties_of (may_load loader) (may_fail_load loader) (may_resolve resolver)
+    (may_fail_resolve resolver) (λ file is_entry properties. ⊥) (λ file is_entry. ⊥)
 
 -- no two entries have one name or one file
 abbrev pub AreEntriesApart : List Entry → Type 0
@@ -56,7 +61,8 @@ abbrev pub IsFaultOfList : List Entry → Fault → Type 0
 IsFaultOfList entries fault =
     (later : Entry) × IsDoubledEntry entries later × (fault ≡ DoubledEntry later.file later.name)
 
--- the fault that is told is the first in the order of judging; where none is, so much is kept as was kept on the way
+-- the fault that is told is the first in the order of judging; where none is, so much is kept as
+-- was kept on the way
 abbrev pub IsFirstFaultTold : Parties → Settings → List Entry → (old new : Kept) → Option Fault →
     Type 0
 IsFirstFaultTold parties settings entries old new (Some fault) =
@@ -80,7 +86,8 @@ pub record IsFinishedBundle (config : OrderedConfig) (merged made : Bundle) : Ty
   pub tree : IsFinished config.base (module_items 0 merged.module) (module_items 0 made.module)
 
 -- a bundle, once it is finished, is that of an entry, over what is kept
-abbrev pub IsMergedBundle : Parties → OrderedConfig → Kept → String Global × FileName → Bundle → Type 0
+abbrev pub IsMergedBundle :
+    Parties → OrderedConfig → Kept → String Global × FileName → Bundle → Type 0
 IsMergedBundle parties config kept entry merged =
     (made : Bundle) → IsFinishedBundle config merged made →
     IsBundledFor parties (settings_of config) kept entry made

@@ -29,7 +29,12 @@ handed_in given =
 
 -- what is kept
 abbrev pub kept_of : store.Kept ModuleData → Kept
-kept_of kept = record { names = names_in kept; trees = map (λ e. (e.0, kept_as e.1)) (trees_in kept); resolved = resolved_in kept }
+kept_of kept =
+    record {
+      names = names_in kept;
+      trees = map (λ e. (e.0, kept_as e.1)) (trees_in kept);
+      resolved = resolved_in kept;
+    }
 
 -- a loader that may give a module hands in its list
 pub record HandsIn (may_load : Name → ModuleData → Type 0) (file : Name)
@@ -40,7 +45,9 @@ pub record HandsIn (may_load : Name → ModuleData → Type 0) (file : Name)
 
 -- what a loader and a resolver may answer
 abbrev pub answers_of : (Name → ModuleData → Type 0) → (Name → List ℕ → Name → Type 0) → Answers
-answers_of may_load may_resolve = record { may_load = HandsIn may_load; may_resolve = λ asked. may_resolve asked.file asked.specifier }
+answers_of may_load may_resolve =
+    record
+    { may_load = HandsIn may_load; may_resolve = λ asked. may_resolve asked.file asked.specifier }
 
 -- what loader, resolver and hook may answer, and where they may fail
 abbrev pub parties_of : (Name → ModuleData → Type 0) → (Name → Type 0) →
@@ -108,16 +115,26 @@ pub record Remains {L R : Type 0} (old_loader new_loader : L) (old_resolver new_
   pub resolver : new_resolver ≡ old_resolver
   pub stays : Stays old new
 
--- the parties stay what they are, and what is kept grows by their answers to what has to be asked, where these are the settings and the files of the entries
-pub record Advances {L R : Type 0} (may_load : L → Name → ModuleData → Type 0) (may_resolve : R → Name → List ℕ → Name → Type 0) (settings : Settings) (entries : List Name) (old_loader new_loader : L) (old_resolver new_resolver : R) (old new : Kept) : Type 0 where
+-- the parties stay what they are, and what is kept grows by their answers to what has to be asked,
+-- where these are the settings and the files of the entries
+pub record Advances
+    {L R : Type 0} (may_load : L → Name → ModuleData → Type 0)
+    (may_resolve : R → Name → List ℕ → Name → Type 0) (settings : Settings) (entries : List Name)
+    (old_loader new_loader : L) (old_resolver new_resolver : R) (old new : Kept) : Type 0 where
   pub loader : new_loader ≡ old_loader
   pub resolver : new_resolver ≡ old_resolver
-  pub grows : Grows (answers_of (may_load old_loader) (may_resolve old_resolver)) settings entries old new
+  pub grows :
+      Grows (answers_of (may_load old_loader) (may_resolve old_resolver)) settings entries old new
 
--- the resolver stays what it is, and what is kept grows by the answers of both parties, as they were, to what has to be asked, where these are the settings and the files of the entries
-pub record Proceeds {L R : Type 0} (may_load : L → Name → ModuleData → Type 0) (may_resolve : R → Name → List ℕ → Name → Type 0) (settings : Settings) (entries : List Name) (old_loader : L) (old_resolver new_resolver : R) (old new : Kept) : Type 0 where
+-- the resolver stays what it is, and what is kept grows by the answers of both parties, as they
+-- were, to what has to be asked, where these are the settings and the files of the entries
+pub record Proceeds
+    {L R : Type 0} (may_load : L → Name → ModuleData → Type 0)
+    (may_resolve : R → Name → List ℕ → Name → Type 0) (settings : Settings) (entries : List Name)
+    (old_loader : L) (old_resolver new_resolver : R) (old new : Kept) : Type 0 where
   pub resolver : new_resolver ≡ old_resolver
-  pub grows : Grows (answers_of (may_load old_loader) (may_resolve old_resolver)) settings entries old new
+  pub grows :
+      Grows (answers_of (may_load old_loader) (may_resolve old_resolver)) settings entries old new
 
 -- for a file of which nothing is kept, a loader may give what another may, and fail where that may
 pub record LoadsAlike {L : Type 0} (may_load : L → Name → ModuleData → Type 0)

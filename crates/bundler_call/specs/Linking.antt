@@ -1,4 +1,5 @@
--- How the entries are linked over a load list: what is read of it, and what is told of each entry and of all.
+-- How the entries are linked over a load list: what is read of it, and what is told of each entry
+-- and of all.
 use Rattle.std.specs.Prelude.{◌≡◌, ◌⊎◌, ℕ, ◌<◌, Bool, IfSome, List, Some, Contains, length, slice_get}
 use Rattle.std.specs.declared.alloc.Global.{Global}
 use Rattle.std.specs.declared.string.String.{String}
@@ -52,7 +53,9 @@ IsNumberedOn kept list entry id = IsFileOn kept list (name_of entry.1) id
 -- what this hook may answer, and where it may fail; nobody else is asked
 abbrev pub answered_by : (Name → Bool → List (KeyValueProp Expr) → Type 0) →
     (Name → Bool → Type 0) → Parties
-answered_by may_give may_fail_hook = parties_of (λ file given. ⊥) (λ file. ⊥) (λ file specifier found. ⊥) (λ file specifier. ⊥) may_give may_fail_hook
+answered_by may_give may_fail_hook =
+    parties_of (λ file given. ⊥) (λ file. ⊥) (λ file specifier found. ⊥) (λ file specifier. ⊥)
+    may_give may_fail_hook
 
 -- a module is what is merged of a program that is accepted: finished, it is the program's bundle
 pub record IsMergedFor (parties : Parties) (config : OrderedConfig) (p : Program)

@@ -1,4 +1,5 @@
--- The load list: which files stand on it, that they were met and are kept, which numbers they have, and where their requests lead.
+-- The load list: which files stand on it, that they were met and are kept, which numbers they have,
+-- and where their requests lead.
 use Rattle.std.specs.Prelude.{◌≡◌, ◌⊎◌, ℕ, List, [], ◌∷◌, ◌++◌, Some, Contains, map, slice_get, string_bytes}
 use Rattle.std.specs.declared.alloc.Global.{Global}
 use Rattle.std.specs.declared.string.String.{String}
@@ -53,14 +54,17 @@ AreFilesNumbered kept list = (place : ℕ) (e : FileName × ℕ) → slice_get l
 -- a request of a file leads to the number of the file that is kept for it, which is one of these
 abbrev pub RequestLeads : Kept → List ℕ → Name → String Global × ℕ → Type 0
 RequestLeads kept numbers file dep =
-    (found : Name) × (kept_file kept (record { file = file; specifier = string_bytes dep.0 }) ≡ Some found) × (number_in kept found ≡ Some dep.1) × Contains numbers dep.1
+    (found : Name)
+    × (kept_file kept (record { file = file; specifier = string_bytes dep.0 }) ≡ Some found)
+    × (number_in kept found ≡ Some dep.1) × Contains numbers dep.1
 
 -- each of these does
 abbrev pub AllLead : Kept → List ℕ → Name → List (String Global × ℕ) → Type 0
 AllLead kept numbers file deps = (dep : String Global × ℕ) → Contains deps dep →
     RequestLeads kept numbers file dep
 
--- these are the requests of a kept file, in their order, and each leads to the number of the file that is kept for it, which is one of these
+-- these are the requests of a kept file, in their order, and each leads to the number of the file
+-- that is kept for it, which is one of these
 pub record IsAsked (settings : Settings) (kept : Kept) (numbers : List ℕ) (file : Name)
     (deps : List (String Global × ℕ)) : Type 0 where
   pub asked : (loaded : Loaded) ×
@@ -71,7 +75,8 @@ pub record IsAsked (settings : Settings) (kept : Kept) (numbers : List ℕ) (fil
 -- the requests of a file were noted last
 abbrev pub AreRequestsNoted : Settings → Kept → Name → (old new : LoadList) → Type 0
 AreRequestsNoted settings kept file old new =
-    (its : Vec (String Global × ℕ) Global) × (new.deps.items ≡ old.deps.items ++ its ∷ []) × IsAsked settings kept (ids_on new) file its.items
+    (its : Vec (String Global × ℕ) Global) × (new.deps.items ≡ old.deps.items ++ its ∷ [])
+    × IsAsked settings kept (ids_on new) file its.items
 
 -- the requests of the files on a list that were worked on are noted
 abbrev pub AreAsked : Settings → Kept → LoadList → Type 0

@@ -39,7 +39,8 @@ pub record IsRefusedAt (may_give : Name → Bool → List (KeyValueProp Expr) �
   pub its_file : file_of p m ≡ Some file
   pub there : module_of p m ≡ Some loaded
   pub asked : IsTrue (has_import_meta (tree_of p m))
-  pub wrong : IsAskedFault may_give may_fail loaded.file_name (m == p.entry) p.settings.iife file fault
+  pub wrong :
+      IsAskedFault may_give may_fail loaded.file_name (m == p.entry) p.settings.iife file fault
   pub before : AreAnsweredBefore may_give p list i
 
 -- module m has `import.meta`; this is its file, and this the name that its loader gave

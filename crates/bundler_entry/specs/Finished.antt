@@ -43,7 +43,8 @@ pub record IsFinished (config : Config) (before made : List Item) : Type 0 where
       CanBeWrapped named.body.items →
       made ≡ wrapped (module_items 0 named)
 
--- the names that the bindings of a tree have in the end, with the bindings that its occurrences denote in turn
+-- the names that the bindings of a tree have in the end, with the bindings that its occurrences
+-- denote in turn
 pub record IsEnded (renames : Bool) (tree : List Item) (names : Names)
     (bindings : List (Option ℕ)) : Type 0 where
   pub table : Denotations
@@ -59,4 +60,6 @@ context_kept Clear ctxt = Some 0
 -- what becomes of an identifier that denotes this binding, or a global
 abbrev pub naming_for : Names → ContextRule → Option ℕ → Naming
 naming_for names contexts None = record { sym = None; ctxt = context_kept contexts None }
-naming_for names contexts (Some binding) = record { sym = binding_text names binding; ctxt = context_kept contexts (context_of names binding) }
+naming_for names contexts (Some binding) =
+    record
+    { sym = binding_text names binding; ctxt = context_kept contexts (context_of names binding) }

@@ -30,8 +30,12 @@ IsFaultOfAnswer iife file answer f = (p : Program) → p.settings.iife ≡ iife 
 abbrev pub IsRightAnswer : Bool → List Item → Type 0
 IsRightAnswer iife answer = (p : Program) → p.settings.iife ≡ iife → AreFaultless p (cleared answer)
 
--- what may be wrong where the hook is asked for a file to which its loader gave this name: it may fail, or an answer that it may give has a fault
-pub data IsAskedFault (may_give : Name → Bool → List (KeyValueProp Expr) → Type 0) (may_fail : Name → Bool → Type 0) (given : Name) (is_entry iife : Bool) (file : Name) : Fault → Type 0 where
+-- what may be wrong where the hook is asked for a file to which its loader gave this name: it may
+-- fail, or an answer that it may give has a fault
+pub data IsAskedFault
+    (may_give : Name → Bool → List (KeyValueProp Expr) → Type 0) (may_fail : Name → Bool → Type 0)
+    (given : Name) (is_entry iife : Bool) (file : Name) :
+    Fault → Type 0 where
   fails : may_fail given is_entry →
       IsAskedFault may_give may_fail given is_entry iife file (HookFails file)
   answers : {f : Fault} (answer : List Item) →
@@ -45,10 +49,12 @@ pub record IsAnswered (may_give : Name → Bool → List (KeyValueProp Expr) →
   pub held : HoldsProperties may_give given is_entry answer
   pub right : IsRightAnswer iife answer
 
--- what was read is this answer: its properties, the list of a module of one statement, an object that has them, and what the names in that denote
+-- what was read is this answer: its properties, the list of a module of one statement, an object
+-- that has them, and what the names in that denote
 pub record IsMetaRead (given : List (KeyValueProp Expr)) (meta : ReadMeta) : Type 0 where
   pub properties : meta.properties.now ≡ given
-  pub list : map item_of meta.pieces.items ≡ properties_tree (flat_map (key_value_prop_items 0) given)
+  pub list :
+      map item_of meta.pieces.items ≡ properties_tree (flat_map (key_value_prop_items 0) given)
   pub names : IsDenotationTable BySymbol Es (map item_of meta.pieces.items) meta.names
 
 -- what was read of answers is these answers

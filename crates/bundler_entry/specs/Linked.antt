@@ -69,8 +69,8 @@ pub record AreByPlaces (p q : Program) (call : EntryCall) (reached : Reached) : 
       slice_get reached.leads.items k ≡ Some its →
       q.leads k s ≡ get_by_text its s
 
--- no module of a program has a fault, and this is what its modules, by their places on the list, are
--- linked to
+-- no module of a program has a fault, and this is what its modules, by their places on the list,
+-- are linked to
 pub record AreEntryLinks (p : Program) (call : EntryCall) (reached : Reached)
     (linking : Linking) : Type 0 where
   pub faultless : IsFaultlessProgram p
@@ -135,7 +135,9 @@ pub record AreNotes (sources : List ReadFile) (reached : Reached) (n : ℕ)
 
 -- the file of a call at a place
 abbrev pub IsFileAt : EntryCall → Reached → ℕ → FileName × ℕ → Type 0
-IsFileAt call reached k file = (place : ℕ) × (slice_get reached.places.items k ≡ Some place) × (slice_get call.program.now.files.files.now place ≡ Some file)
+IsFileAt call reached k file =
+    (place : ℕ) × (slice_get reached.places.items k ≡ Some place)
+    × (slice_get call.program.now.files.files.now place ≡ Some file)
 
 -- the files of the first n modules are there
 abbrev pub HasFiles : EntryCall → Reached → ℕ → Type 0

@@ -55,8 +55,8 @@ pub record IsMadeOf (q : Program) (call : EntryCall) (linked : LinkedEntry)
   pub is_merged : IsMergedIn q linked answers merged
   pub finished : IsFinished call.config.now.base (module_items 0 merged) (module_items 0 made)
 
--- the modules of an entry make none: a growth was refused; or contexts are used up, which is told of
--- the file of the module whose names get them or, of the linker's own names, of the entry's
+-- the modules of an entry make none: a growth was refused; or contexts are used up, which is told
+-- of the file of the module whose names get them or, of the linker's own names, of the entry's
 pub data IsRefusedMaking (q : Program) (call : EntryCall) (linked : LinkedEntry)
     (answers : ℕ → Option (List Item)) : EntryError → Type 0 where
   for_memory : IsRefusedMaking q call linked answers OutOfMemory

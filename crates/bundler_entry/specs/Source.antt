@@ -33,7 +33,10 @@ kept_as given =
 abbrev pub list_of_source : ReadFile → List Item
 list_of_source source = module_items 0 source.tree.now
 
--- what was read is module m of a program, with the name that its loader gave, its tree, what its names denote in an ES module, the first of them that is declared twice there and, where it may be one, in a CommonJS module, its table, and whether it has `import.meta`; it is the tree of a module, has no fault by itself, and one entry of each name
+-- what was read is module m of a program, with the name that its loader gave, its tree, what its
+-- names denote in an ES module, the first of them that is declared twice there and, where it may be
+-- one, in a CommonJS module, its table, and whether it has `import.meta`; it is the tree of a
+-- module, has no fault by itself, and one entry of each name
 pub record IsSourceOf (p : Program) (m : ℕ) (source : ReadFile) : Type 0 where
   pub loaded : Loaded
   pub there : module_of p m ≡ Some loaded

@@ -18,12 +18,13 @@ use Rattle.bundler_call.specs.Kept.{entry_of}
 use Rattle.bundler_call.specs.declared.bundle.Bundle.{Bundle}
 use Rattle.gutsirava_bundle.specs.BundleText.{IsFramed}
 use Rattle.gutsirava_bundle.specs.Command.{link_settings, parties_beside, BeginsWith, HasTextOf, IsCommandAnswer, IsLinked, IsNamedFor}
-use Rattle.gutsirava_bundle.specs.Linking.{BeginsAt, HasNameOf, IsLinkAnswer, IsRootOf}
+use Rattle.gutsirava_bundle.specs.Linking.{BeginsAt, HasNameOf, IsLinkAnswer}
+use Rattle.gutsirava_graph.specs.Graph.{IsRootOf}
 use Rattle.gutsirava_bundle.specs.Parties.{gives_nothing, fails_nowhere}
 use Rattle.gutsirava_bundle.specs.declared.bundling.BundleText.{BundleText}
-use Rattle.gutsirava_bundle.specs.declared.bundling.Root.{Root}
-use Rattle.gutsirava_bundle.specs.declared.settings.BundleEntry.{BundleEntry}
-use Rattle.gutsirava_bundle.specs.declared.settings.BundleSettings.{BundleSettings}
+use Rattle.gutsirava_graph.specs.declared.entries.Root.{Root}
+use Rattle.gutsirava_graph.specs.declared.settings.BundleEntry.{BundleEntry}
+use Rattle.gutsirava_graph.specs.declared.settings.BundleSettings.{BundleSettings}
 use Rattle.std.specs.String.{string_bytes}
 
 -- each entry of the linker's is the module with which the bundle begins
@@ -58,10 +59,9 @@ as_many settings external trees roots entries bundles begins linked =
 pub link_answer : (settings : BundleSettings) (external : List (List ℕ)) (trees : List (Option Module)) (roots : List Root) (entries : List (String Global × FileName)) (bundles : List Bundle) (outputs : List BundleText) →
     AllZip BeginsAt roots entries →
     IsLinked gives_nothing fails_nowhere (link_settings settings external) trees (map entry_of entries) (Bundles (map bundled_of bundles)) →
-    (length bundles ≡ length roots → AllZip (HasTextOf settings) bundles outputs) →
-    (length bundles ≡ length roots → AllZip HasNameOf roots outputs) →
+    (length bundles ≡ length roots → AllZip (HasTextOf settings) bundles outputs × AllZip HasNameOf roots outputs) →
     IsLinkAnswer settings roots outputs
-link_answer settings external trees roots entries bundles outputs begins linked texts names =
+link_answer settings external trees roots entries bundles outputs begins linked are =
     let same = as_many settings external trees roots entries bundles begins linked in
     record {
       trees = trees;
@@ -70,8 +70,8 @@ link_answer settings external trees roots entries bundles outputs begins linked 
       bundles = bundles;
       each_begins = begins_with roots entries begins;
       linked = linked;
-      texts = texts same;
-      names = names same;
+      texts = (are same).0;
+      names = (are same).1;
     }
 
 -- a text that is called as what was found of an entry is called as the entry

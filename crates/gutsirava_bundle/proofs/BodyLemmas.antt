@@ -12,7 +12,7 @@ use Rattle.gutsirava_resolve.specs.declared.settings.TargetPlatform.{TargetPlatf
 use Rattle.gutsirava_resolve.specs.declared.settings.TargetPlatform.TheVariants.{Browser}
 use Rattle.bundle_tree_ast.specs.declared.module.Module.{Module as Tree}
 use Rattle.bundle_tree_listed.specs.Tree.{module_items}
-use Rattle.gutsirava_bundle.specs.declared.settings.BundleSettings.{BundleSettings}
+use Rattle.gutsirava_graph.specs.declared.settings.BundleSettings.{BundleSettings}
 use Rattle.gutsirava_bundle.specs.BundleText.{AddsDirective, Appends, IsBody, IsFramed, IsStrictBody, LeavesComments, first_line, IsCall, IsModuleBody, IsNamed, IsPrint, IsScriptBody}
 
 -- a print of pieces is one of their items

@@ -1,29 +1,8 @@
--- What is made one by one of a list, as far as a loop has come.
-use Rattle.std.proofs.Common.{◌≡◌, ◌⊎◌, ℕ, ◌+◌, ◌<◌, ◌≤◌, List, [], ◌∷◌, ◌++◌, length, get_or, take, inl, inr, sym, ap, subst, ◌∙◌, append_assoc, append-nil, arith}
+-- What is made one by one of two lists, as far as a loop has come.
+use Rattle.std.proofs.Common.{◌≡◌, ◌⊎◌, ℕ, ◌+◌, ◌<◌, ◌≤◌, List, [], ◌∷◌, ◌++◌, length, get_or, take, inl, inr, sym, ap, subst, ◌∙◌, arith}
 use Rattle.std.proofs.lemmas.List.{nil_from_length, take_all, take_more}
 use Rattle.std.proofs.lemmas.Slice.Zip.{all_zipped_more}
 use Rattle.std.specs.List.{AllZip}
-
--- these are made of those of which these are left
-abbrev pub AreSoFar : {A B : Type 0} → (A → B → Type 0) → (all rest : List A) → List B → Type 0
-AreSoFar {B = B} R all rest made = (more : List B) → AllZip R rest more → AllZip R all (made ++ more)
-
-pub none_so_far : {A B : Type 0} (R : A → B → Type 0) (all rest : List A) (made : List B) →
-    rest ≡ all → made ≡ [] → AreSoFar R all rest made
-none_so_far R all rest made same none = λ more are.
-    subst (λ xs. AllZip R all (xs ++ more)) (sym none) (subst (λ xs. AllZip R xs more) same are)
-
-pub more_so_far : {A B : Type 0} (R : A → B → Type 0) (all rest left : List A) (made now : List B) (x : A) (y : B) →
-    rest ≡ x ∷ left → now ≡ made ++ y ∷ [] → R x y → AreSoFar R all rest made → AreSoFar R all left now
-more_so_far R all rest left made now x y is_rest is_now is so_far = λ more are.
-    subst (λ xs. AllZip R all (xs ++ more)) (sym is_now)
-    (subst (λ xs. AllZip R all xs) (sym (append_assoc made (y ∷ []) more))
-    (so_far (y ∷ more) (subst (λ xs. AllZip R xs (y ∷ more)) (sym is_rest) (is, are))))
-
-pub all_so_far : {A B : Type 0} (R : A → B → Type 0) (all rest : List A) (made : List B) →
-    rest ≡ [] → AreSoFar R all rest made → AllZip R all made
-all_so_far R all rest made none so_far =
-    subst (λ xs. AllZip R all xs) (append-nil made) (so_far [] (subst (λ xs. AllZip R xs []) (sym none) tt))
 
 -- one more is made of the next one
 pub zip_more : {A B : Type 0} (R : A → B → Type 0) (xs : List A) (i : ℕ) (x : A) (ys now : List B) (y : B) → i < length xs → x ≡ get_or xs i x → now ≡ ys ++ y ∷ [] → AllZip R (take i xs) ys → R x y → AllZip R (take (i + 1) xs) now

@@ -11,9 +11,9 @@ use Rattle.bundle_tree_ast.specs.declared.module.Module.{Module as Tree}
 use Rattle.bundle_tree_listed.specs.Tree.{module_items}
 use Rattle.gutsirava_resolve.specs.declared.settings.TargetPlatform.{TargetPlatform}
 use Rattle.gutsirava_resolve.specs.declared.settings.TargetPlatform.TheVariants.{Browser}
-use Rattle.gutsirava_bundle.specs.declared.settings.BundleSettings.{BundleSettings}
-use Rattle.gutsirava_bundle.specs.declared.settings.OutputFormat.{OutputFormat}
-use Rattle.gutsirava_bundle.specs.declared.settings.OutputFormat.TheVariants.{Module, Iife}
+use Rattle.gutsirava_graph.specs.declared.settings.BundleSettings.{BundleSettings}
+use Rattle.gutsirava_graph.specs.declared.settings.OutputFormat.{OutputFormat}
+use Rattle.gutsirava_graph.specs.declared.settings.OutputFormat.TheVariants.{Module, Iife}
 
 -- ---- the list that is printed
 

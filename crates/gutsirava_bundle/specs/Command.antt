@@ -18,14 +18,14 @@ use Rattle.bundler_call.specs.Answer.{bundled_of, refusal_of}
 use Rattle.bundler_call.specs.Kept.{parties_of}
 use Rattle.bundler_call.specs.declared.bundle.Bundle.{Bundle}
 use Rattle.gutsirava_bundle.specs.BundleText.{IsBundleText}
-use Rattle.gutsirava_bundle.specs.Numbers.{unit_name}
+use Rattle.gutsirava_graph.specs.Numbers.{unit_name}
 use Rattle.gutsirava_bundle.specs.Parties.{HandsOver, LeadsTo, gives_nothing, fails_nowhere, may_fail_to_load, may_fail_to_resolve}
 use Rattle.gutsirava_bundle.specs.declared.bundling.BundleText.{BundleText}
 use Rattle.gutsirava_bundle.specs.declared.bundling.LinkedBundles.{LinkedBundles}
-use Rattle.gutsirava_bundle.specs.declared.settings.BundleEntry.{BundleEntry}
-use Rattle.gutsirava_bundle.specs.declared.settings.BundleSettings.{BundleSettings}
-use Rattle.gutsirava_bundle.specs.declared.settings.OutputFormat.{OutputFormat}
-use Rattle.gutsirava_bundle.specs.declared.settings.OutputFormat.TheVariants as format
+use Rattle.gutsirava_graph.specs.declared.settings.BundleEntry.{BundleEntry}
+use Rattle.gutsirava_graph.specs.declared.settings.BundleSettings.{BundleSettings}
+use Rattle.gutsirava_graph.specs.declared.settings.OutputFormat.{OutputFormat}
+use Rattle.gutsirava_graph.specs.declared.settings.OutputFormat.TheVariants as format
 
 -- whether a bundle is a script
 abbrev pub is_script : OutputFormat → Bool

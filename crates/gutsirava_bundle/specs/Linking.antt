@@ -12,21 +12,11 @@ use Rattle.bundle_rules.specs.Judging.{Entry}
 use Rattle.bundler_call.specs.Answer.{bundled_of}
 use Rattle.bundler_call.specs.declared.bundle.Bundle.{Bundle}
 use Rattle.gutsirava_bundle.specs.Command.{link_settings, BeginsWith, HasTextOf, IsLinked}
-use Rattle.gutsirava_bundle.specs.Numbers.{unit_name}
+use Rattle.gutsirava_graph.specs.Numbers.{unit_name}
 use Rattle.gutsirava_bundle.specs.Parties.{gives_nothing, fails_nowhere}
 use Rattle.gutsirava_bundle.specs.declared.bundling.BundleText.{BundleText}
-use Rattle.gutsirava_bundle.specs.declared.bundling.Root.{Root}
-use Rattle.gutsirava_bundle.specs.declared.settings.BundleEntry.{BundleEntry}
-use Rattle.gutsirava_bundle.specs.declared.settings.BundleSettings.{BundleSettings}
-use Rattle.gutsirava_bundle.specs.declared.unit.BundleUnit.{BundleUnit}
-
--- the trees of modules
-abbrev pub trees_in : List BundleUnit → List (Option Module)
-trees_in units = map (λ it. it.tree) units
-
--- the entry that was found has the name that was given
-abbrev pub IsRootOf : BundleEntry → Root → Type 0
-IsRootOf entry root = root.name ≡ entry.name
+use Rattle.gutsirava_graph.specs.declared.entries.Root.{Root}
+use Rattle.gutsirava_graph.specs.declared.settings.BundleSettings.{BundleSettings}
 
 -- an entry as the linker takes it is the module with which the bundle begins
 abbrev pub BeginsAt : Root → String Global × FileName → Type 0

@@ -5,7 +5,7 @@ use Rattle.bundle_tree_ast.specs.declared.module.Module.{Module}
 use Rattle.bundle_tree_ast.specs.declared.prop.KeyValueProp.{KeyValueProp}
 use Rattle.bundle_tree_names.specs.FileName.{Name, name_of}
 use Rattle.bundle_tree.specs.declared.load.ModuleData.{ModuleData}
-use Rattle.gutsirava_bundle.specs.Numbers.{unit_name, IsKeyOf, IsNameOf}
+use Rattle.gutsirava_graph.specs.Numbers.{unit_name, IsKeyOf, IsNameOf}
 
 -- of these trees, that of the module which the name is of may be given for it
 pub record HandsOver (trees : List (Option Module)) (file : Name) (given : ModuleData) : Type 0

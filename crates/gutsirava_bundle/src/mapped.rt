@@ -1,12 +1,10 @@
 //! The source map of a bundle.
 
 use crate::output::BundleBody;
-use crate::parties::unit_in;
-use crate::settings::{BundleSettings, MapSetting, OutputFormat};
-use crate::unit::BundleUnit;
 use bundle_syntax::{Node, Piece};
 use bundle_tree_names::file_name::FileName;
 use bundler_call::{BundleCauses, ItemCause};
+use gutsirava_graph::{BundleSettings, BundleUnit, MapSetting, OutputFormat, unit_in};
 use gutsirava_maps::{MapSource, map_text};
 use gutsirava_path::relative;
 use gutsirava_traces::{MapMaker, PrintedList, SourceFile};

@@ -5,12 +5,12 @@ ghost use Rattle.std.specs.List.{list_any};
 ghost use Rattle.bundle_syntax.specs.Item.{item_of};
 ghost use Rattle.gutsirava_bundle.specs.BundleText.{first_line, AddsDirective, Appends, BeginsWithComment, IsBody, IsCall, IsComment, IsFramed, IsModuleBody, IsScriptBody, IsStatement, LeavesComments, directive};
 
-use crate::settings::{BundleSettings, OutputFormat};
 use bundle_js_print::{LeadingComment, Printed, print_pieces};
 use bundle_scope_denote::{ModuleKind, Reading, denotations};
 use bundle_syntax::{Node, Piece};
 use bundle_tree_ast::Module;
 use bundle_tree_list::pieces_of_module;
+use gutsirava_graph::{BundleSettings, OutputFormat};
 use gutsirava_resolve::TargetPlatform;
 use gutsirava_sources::COMMENT;
 use gutsirava_traces::PrintedList;

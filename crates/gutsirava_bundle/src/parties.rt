@@ -1,34 +1,15 @@
 //! The linker's loader, resolver and hook: trees by the numbers of modules, keys in the place of specifiers.
 
-ghost use Rattle.std.specs.Prelude.{◌≡◌, ℕ, IfOk, IfSome, slice_get};
+ghost use Rattle.std.specs.Prelude.{◌≡◌, ℕ, IfSome, slice_get};
 ghost use Rattle.bundle_tree_ast.specs.declared.module.Module.{Module};
-ghost use Rattle.bundle_tree_names.specs.FileName.{name_of};
-ghost use Rattle.gutsirava_bundle.specs.Numbers.{unit_name, IsNameOf};
 
-use crate::unit::unit_of;
 use bundle_tree::hook::{Hook, HookError, ModuleRecord};
 use bundle_tree::load::{Load, LoadError, ModuleData};
 use bundle_tree::resolve::{Resolve, ResolveError};
 use bundle_tree_ast::{KeyValueProp, Module};
 use bundle_tree_names::file_name::FileName;
-use std::alloc::{AllocError, Global};
-
-/// The name under which the linker knows a module.
-pub(crate) fn file_of(alloc: Global, unit: usize) -> Result<FileName, AllocError>
-    ensures { IfOk result (λ file. name_of file ≡ unit_name unit) }
-{
-    Ok(FileName::Custom(format!(in alloc; "{unit}")?))
-}
-
-/// The module that the linker knows under a name.
-pub(crate) fn unit_in(file: &FileName) -> Option<usize>
-    ensures { IfSome result (IsNameOf (name_of file.now)) }
-{
-    match file {
-        FileName::Custom(text) => text.as_str().parse::<usize>().ok(),
-        FileName::Real(_) => None,
-    }
-}
+use gutsirava_graph::{file_of, unit_in, unit_of};
+use std::alloc::Global;
 
 /// Hands over the trees of modules, each once.
 #[derive(Drop)]

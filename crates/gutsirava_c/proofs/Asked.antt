@@ -8,8 +8,8 @@ use Rattle.json.specs.Value.{items_view, value_view}
 use Rattle.json.specs.declared.value.Value.{Value}
 use Rattle.bundle_json_form.specs.declared.error.FormError.{FormError}
 use Rattle.gutsirava_bundle.specs.declared.bundling.BundleText.{BundleText}
-use Rattle.gutsirava_bundle.specs.declared.settings.BundleEntry.{BundleEntry}
-use Rattle.gutsirava_bundle.specs.declared.settings.BundleSettings.{BundleSettings}
+use Rattle.gutsirava_graph.specs.declared.settings.BundleEntry.{BundleEntry}
+use Rattle.gutsirava_graph.specs.declared.settings.BundleSettings.{BundleSettings}
 use Rattle.serde_json.specs.Written.{compact_text}
 use Rattle.gutsirava_c.specs.Request.{found, AreEntryPairs, Asks, IsEntryPair, TextAsks}
 use Rattle.gutsirava_c.specs.Sources.{bundles_data, IsBundledText, IsReplyTo, IsSourcesReply}

@@ -13,10 +13,10 @@ use Rattle.bundle_json_form.specs.declared.error.FormError.TheVariants.{Form}
 use Rattle.gutsirava_path.specs.Normal.{joined_text, normal_text}
 use Rattle.gutsirava_resolve.specs.declared.settings.TargetPlatform.{TargetPlatform}
 use Rattle.gutsirava_resolve.specs.declared.settings.TargetPlatform.TheVariants.{Browser, Node}
-use Rattle.gutsirava_bundle.specs.declared.settings.BundleEntry.{BundleEntry}
-use Rattle.gutsirava_bundle.specs.declared.settings.BundleSettings.{BundleSettings}
-use Rattle.gutsirava_bundle.specs.declared.settings.OutputFormat.{OutputFormat}
-use Rattle.gutsirava_bundle.specs.declared.settings.OutputFormat.TheVariants.{Iife, Module}
+use Rattle.gutsirava_graph.specs.declared.settings.BundleEntry.{BundleEntry}
+use Rattle.gutsirava_graph.specs.declared.settings.BundleSettings.{BundleSettings}
+use Rattle.gutsirava_graph.specs.declared.settings.OutputFormat.{OutputFormat}
+use Rattle.gutsirava_graph.specs.declared.settings.OutputFormat.TheVariants.{Iife, Module}
 
 -- the value that was found
 abbrev pub found : Option (Bor (Value Global)) → Option Json

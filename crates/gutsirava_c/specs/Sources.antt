@@ -5,8 +5,8 @@ use Rattle.serde_json.specs.View.{items_of}
 use Rattle.serde_json.specs.Written.{compact_text}
 use Rattle.gutsirava_bundle.specs.Command.{IsCommandAnswer}
 use Rattle.gutsirava_bundle.specs.declared.bundling.BundleText.{BundleText}
-use Rattle.gutsirava_bundle.specs.declared.settings.BundleEntry.{BundleEntry}
-use Rattle.gutsirava_bundle.specs.declared.settings.BundleSettings.{BundleSettings}
+use Rattle.gutsirava_graph.specs.declared.settings.BundleEntry.{BundleEntry}
+use Rattle.gutsirava_graph.specs.declared.settings.BundleSettings.{BundleSettings}
 use Rattle.gutsirava_c.specs.Request.{IsNoRequest, TextAsks}
 
 -- the object of a bundle: its text and its name

@@ -2,3 +2,4 @@ pub mod MappingLemmas
 pub mod PlaceLemmas
 pub mod TextLemmas
 pub mod VlqLemmas
+pub mod NameLemmas

@@ -3,3 +3,4 @@ pub mod Vlq
 pub mod Places
 pub mod Mapping
 pub mod Text
+pub mod Names

@@ -1,6 +1,7 @@
 //! The names that a map tells.
 
-ghost use Rattle.std.specs.Prelude.{◌≡◌, IsSomeAnd, IsTrue, slice_get, string_bytes};
+ghost use Rattle.std.specs.Prelude.{◌≡◌, ◌≢◌, false, IsSomeAnd, IsTrue, Some, slice_get, string_bytes};
+ghost use Rattle.gutsirava_maps.specs.Names.{name_at, AreNumbered};
 
 use std::alloc::{AllocError, Global};
 use std::collections::BTreeMap;
@@ -11,11 +12,13 @@ pub struct NameList {
     alloc: Global,
     numbers: BTreeMap<String, u32>,
     pub names: Vec<String>,
+    ghost numbered: { AreNumbered numbers names.items },
 }
 
 impl NameList {
-    ghost use Rattle.std.specs.Prelude.{◌≡◌, ◌++◌, [], List, String, IfOk, IfSome, IsSomeAnd, slice_get, string_bytes};
+    ghost use Rattle.std.specs.Prelude.{◌≡◌, ◌++◌, [], List, String, IfNone, IfOk, IfSome, IsSomeAnd, slice_get, string_bytes};
     ghost use Rattle.std.specs.declared.alloc.Global.{Global};
+    ghost use Rattle.gutsirava_maps.specs.Names.{AreDistinct, IsNew, IsPutDown};
 
     /// No names.
     pub fn new(alloc: Global) -> NameList
@@ -28,13 +31,15 @@ impl NameList {
         }
     }
 
-    /// The number of a name, which is put down where it is new. Refused only for memory, and where 32 bits cannot number
-    /// it.
+    /// The number of a name, its place among the names. It is put down where it is new, and no name stands twice. Refused
+    /// only for memory, and where 32 bits cannot number it.
     pub fn number_of(&mut self, name: &str) -> Result<u32, AllocError>
         ensures named { IfOk result (λ number. IsSomeAnd
             (slice_get self.new.names.items number) (λ it. string_bytes it ≡ name.now)) }
         ensures kept { (more : List (String Global)) ×
             (self.new.names.items ≡ self.old.names.items ++ more) }
+        ensures put { IsPutDown name.now self.old.names.items self.new.names.items }
+        ensures distinct { AreDistinct self.new.names.items }
     {
         match self.known_number(name) {
             Some(number) => Ok(number),
@@ -44,21 +49,26 @@ impl NameList {
 
     // The number of a name that was put down.
     fn known_number(&self, name: &str) -> Option<u32>
-        ensures { IfSome result (λ number. IsSomeAnd
+        ensures named { IfSome result (λ number. IsSomeAnd
             (slice_get self.now.names.items number) (λ it. string_bytes it ≡ name.now)) }
+        ensures new { IfNone result (IsNew name.now self.now.names.items) }
     {
-        match self.numbers.get(name) {
-            Some(number) if is_called(self.names.as_slice(), *number, name) => Some(*number),
-            _ => None,
+        let number = *self.numbers.get(name)?;
+        if is_called(self.names.as_slice(), number, name) {
+            Some(number)
+        } else {
+            None
         }
     }
 
-    // Puts down a name, and gives its number.
+    // Puts down a new name, and gives its number.
     fn add(&mut self, name: &str) -> Result<u32, AllocError>
+        requires { IsNew name.now self.old.names.items }
         ensures named { IfOk result (λ number. IsSomeAnd
             (slice_get self.new.names.items number) (λ it. string_bytes it ≡ name.now)) }
         ensures kept { (more : List (String Global)) ×
             (self.new.names.items ≡ self.old.names.items ++ more) }
+        ensures put { IsPutDown name.now self.old.names.items self.new.names.items }
     {
         let Ok(number) = u32::try_from(self.names.len()) else {
             return Err(AllocError);
@@ -73,8 +83,9 @@ impl NameList {
 
 // Whether the name of this number is that one.
 fn is_called(names: &[String], number: u32, name: &str) -> bool
-    ensures { IsTrue result
+    ensures called { IsTrue result
         → IsSomeAnd (slice_get names.now number) (λ it. string_bytes it ≡ name.now) }
+    ensures other { result ≡ false → name_at names.now number ≢ Some name.now }
 {
     match names.get(number as usize) {
         Some(known) => is_text(known, name),
@@ -84,7 +95,8 @@ fn is_called(names: &[String], number: u32, name: &str) -> bool
 
 // Whether a text is that one.
 fn is_text(text: &String, other: &str) -> bool
-    ensures { IsTrue result → string_bytes text.now ≡ other.now }
+    ensures same { IsTrue result → string_bytes text.now ≡ other.now }
+    ensures differs { result ≡ false → string_bytes text.now ≢ other.now }
 {
     text.as_str() == other
 }

@@ -1,7 +1,10 @@
 -- What a line with a mark adds to a report.
-use Rattle.std.proofs.Common.{◌≡◌, ◌++◌, List, [], ◌∷◌, Result, Ok, Err, OnOk, max, replicate, append_assoc}
+use Rattle.std.proofs.Common.{◌≡◌, ◌++◌, true, chars, codes, string_bytes, List, [], ◌∷◌, Result, Ok, Err, OnOk, max, replicate, append_assoc}
 use Rattle.gutsirava_report.specs.Shown.{chars_of, columns_of}
-use Rattle.gutsirava_report.specs.Excerpt.{AddsExcerpt, margin_under}
+use Rattle.gutsirava_report.specs.Excerpt.{dots, is_quiet, AddsExcerpt, margin_under}
+use Rattle.std.specs.Fmt.{decimal}
+use Rattle.gutsirava_report.specs.Gains.{Shows}
+use Rattle.gutsirava_report.specs.declared.place.Stretch.{Stretch}
 use Rattle.gutsirava_report.specs.declared.shown.Shown.{Shown}
 use Rattle.gutsirava_report.specs.declared.sheet.Sheet.{Sheet}
 use Rattle.gutsirava_report.specs.declared.sheet.SheetPiece.TheVariants.{Text, LineEnd}
@@ -27,8 +30,12 @@ pub excerpt_added : {T E : Type 0} (r : Result T E) (old s1 s2 s3 s4 s5 s6 s7 ne
     → OnOk r (new.pieces.items ≡ s7.pieces.items ++ LineEnd ∷ [])
     → chars_of bar ≡ margin_under margin
     → chars_of marks ≡ replicate (columns_of before) 32 ++ replicate (max 1 (columns_of marked)) 94
-    → OnOk r (AddsExcerpt old new style)
-excerpt_added (Ok x) old s1 s2 s3 s4 s5 s6 s7 new style margin before marked after bar marks e1 e2 e3 e4 e5 e6 e7 e8 aligned under =
+    → (stretch : Stretch) → Shows (decimal stretch.line ++ codes " | ") margin
+    → (is_quiet stretch.before ≡ true → chars_of before ≡ dots stretch.has_more_before ++ chars (string_bytes stretch.before))
+    → Shows (string_bytes stretch.marked) marked
+    → (is_quiet stretch.after ≡ true → chars_of after ≡ chars (string_bytes stretch.after) ++ dots stretch.has_more_after)
+    → OnOk r (AddsExcerpt old new style stretch)
+excerpt_added (Ok x) old s1 s2 s3 s4 s5 s6 s7 new style margin before marked after bar marks e1 e2 e3 e4 e5 e6 e7 e8 aligned under stretch numbered behind there ahead =
     record {
       margin = margin;
       before = before;
@@ -37,7 +44,11 @@ excerpt_added (Ok x) old s1 s2 s3 s4 s5 s6 s7 new style margin before marked aft
       bar = bar;
       marks = marks;
       pieces = eight_more _ _ _ _ _ _ _ _ _ _ _ _ _ _ _ _ _ e1 e2 e3 e4 e5 e6 e7 e8;
+      numbered = numbered;
+      behind = behind;
+      there = there;
+      ahead = ahead;
       aligned = aligned;
       under = under;
     }
-excerpt_added (Err e) old s1 s2 s3 s4 s5 s6 s7 new style margin before marked after bar marks e1 e2 e3 e4 e5 e6 e7 e8 aligned under = tt
+excerpt_added (Err e) old s1 s2 s3 s4 s5 s6 s7 new style margin before marked after bar marks e1 e2 e3 e4 e5 e6 e7 e8 aligned under stretch numbered behind there ahead = tt

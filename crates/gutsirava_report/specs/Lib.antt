@@ -5,6 +5,9 @@ pub mod Severity
 pub mod Sheet
 pub mod Text
 pub mod Lines
+pub mod Fronts
+pub mod Gains
 pub mod Excerpt
+pub mod Messages
 pub mod Units
 pub mod Amounts

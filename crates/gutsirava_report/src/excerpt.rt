@@ -1,22 +1,21 @@
 //! A line of a file with a mark under a stretch of it.
 
-ghost use Rattle.std.specs.Prelude.{◌≡◌, ◌-◌, ◌++◌, ◌∷◌, [], max, replicate, OnOk, IfOk, IfSome};
+ghost use Rattle.std.specs.Prelude.{◌≡◌, ◌-◌, ◌++◌, ◌∷◌, [], ℕ, List, true, chars, codes, max, replicate, string_bytes, OnOk, IfOk, IfSome};
+ghost use Rattle.std.specs.Fmt.{decimal};
 ghost use Rattle.gutsirava_report.specs.Shown.{chars_of};
-ghost use Rattle.gutsirava_report.specs.Excerpt.{AddsExcerpt, EndsInExcerpt};
+ghost use Rattle.gutsirava_report.specs.Excerpt.{at_text, dots, is_quiet, AddsExcerpt, AddsPlace};
+ghost use Rattle.gutsirava_report.specs.Gains.{Gains, Shows};
+ghost use Rattle.gutsirava_report.specs.Gains.Gain.{Words, Ended};
 
 use crate::{FilePlace, Sheet, Shown, Stretch, Style};
 use std::alloc::{AllocError, Global};
 
 /// Appends where something is: the file with line and column, and the line with a mark of this style.
 pub fn push_place(sheet: &mut Sheet, place: &FilePlace, style: Style) -> Result<(), AllocError>
-    ensures { IfSome place.now.stretch (λ _. OnOk result (EndsInExcerpt sheet.new style)) }
+    ensures { OnOk result (AddsPlace place.now style sheet.old sheet.new) }
 {
     match &place.stretch {
-        None => {
-            sheet.push(Style::Margin, " --> ")?;
-            sheet.push(Style::Plain, place.path.as_str())?;
-            sheet.end_line()
-        }
+        None => push_file(sheet, place.path.as_str()),
         Some(stretch) => {
             let margin = margin_of(sheet.allocator(), stretch)?;
             push_arrow(sheet, &margin)?;
@@ -27,8 +26,23 @@ pub fn push_place(sheet: &mut Sheet, place: &FilePlace, style: Style) -> Result<
     }
 }
 
+// Appends the line of a file.
+#[tactic(auto, using(std::proofs::lemmas::Grind::common_steps, crate::proofs::GainLemmas::gains_text, crate::proofs::GainLemmas::gains_end))]
+fn push_file(sheet: &mut Sheet, path: &str) -> Result<(), AllocError>
+    ensures { OnOk result (Gains sheet.old sheet.new
+        (Words Style.Margin (codes " --> ") ∷ Words Style.Plain path.now ∷ Ended ∷ [])) }
+{
+    sheet.push(Style::Margin, " --> ")?;
+    sheet.push(Style::Plain, path)?;
+    sheet.end_line()
+}
+
 // Appends an arrow that ends in the last column of a margin.
-fn push_arrow(sheet: &mut Sheet, margin: &Shown) -> Result<(), AllocError> {
+#[tactic(auto, using(std::proofs::lemmas::Grind::common_steps, crate::proofs::GainLemmas::gains_shown))]
+fn push_arrow(sheet: &mut Sheet, margin: &Shown) -> Result<(), AllocError>
+    ensures { OnOk result ((arrow : List ℕ) × Gains sheet.old sheet.new
+        (Words Style.Margin arrow ∷ [])) }
+{
     let mut arrow = Shown::new(sheet.allocator());
     arrow.pad(' ', margin.columns().saturating_sub(3))?;
     arrow.push_str("--> ")?;
@@ -36,7 +50,11 @@ fn push_arrow(sheet: &mut Sheet, margin: &Shown) -> Result<(), AllocError> {
 }
 
 // Appends the file with line and column.
-fn push_name(sheet: &mut Sheet, path: &str, stretch: &Stretch) -> Result<(), AllocError> {
+#[tactic(auto, using(std::proofs::lemmas::Grind::common_steps, crate::proofs::GainLemmas::gains_text, crate::proofs::GainLemmas::gains_end))]
+fn push_name(sheet: &mut Sheet, path: &str, stretch: &Stretch) -> Result<(), AllocError>
+    ensures { OnOk result (Gains sheet.old sheet.new
+        (Words Style.Plain path.now ∷ Words Style.Plain (at_text stretch.now) ∷ Ended ∷ [])) }
+{
     sheet.push(Style::Plain, path)?;
     let (line, column) = (stretch.line, stretch.column);
     let at = format!(in sheet.allocator(); ":{line}:{column}")?;
@@ -45,7 +63,10 @@ fn push_name(sheet: &mut Sheet, path: &str, stretch: &Stretch) -> Result<(), All
 }
 
 // Appends a line without number or text.
-fn push_bar(sheet: &mut Sheet, margin: &Shown) -> Result<(), AllocError> {
+fn push_bar(sheet: &mut Sheet, margin: &Shown) -> Result<(), AllocError>
+    ensures { OnOk result ((bar : List ℕ) × Gains sheet.old sheet.new
+        (Words Style.Margin bar ∷ Ended ∷ [])) }
+{
     let bar = bar_in(sheet.allocator(), margin.columns())?;
     sheet.push_shown(Style::Margin, bar)?;
     sheet.end_line()
@@ -58,7 +79,8 @@ fn push_stretch(
     stretch: &Stretch,
     style: Style,
 ) -> Result<(), AllocError>
-    ensures { OnOk result (AddsExcerpt sheet.old sheet.new style) }
+    requires { Shows (decimal stretch.now.line ++ codes " | ") margin }
+    ensures { OnOk result (AddsExcerpt sheet.old sheet.new style stretch.now) }
 {
     let alloc = sheet.allocator();
     let room = margin.columns();
@@ -80,7 +102,9 @@ fn push_stretch(
 }
 
 // What stands left of a line: its number and a bar.
-fn margin_of(alloc: Global, stretch: &Stretch) -> Result<Shown, AllocError> {
+fn margin_of(alloc: Global, stretch: &Stretch) -> Result<Shown, AllocError>
+    ensures { IfOk result (Shows (decimal stretch.now.line ++ codes " | ")) }
+{
     let line = stretch.line;
     let number = format!(in alloc; "{line} | ")?;
     let mut margin = Shown::new(alloc);
@@ -111,26 +135,37 @@ fn marks_under(alloc: Global, indent: usize, width: usize) -> Result<Shown, Allo
     Ok(marks)
 }
 
-fn text_marked(alloc: Global, stretch: &Stretch) -> Result<Shown, AllocError> {
+fn text_marked(alloc: Global, stretch: &Stretch) -> Result<Shown, AllocError>
+    ensures { IfOk result (Shows (string_bytes stretch.now.marked)) }
+{
     let mut marked = Shown::new(alloc);
     marked.push_str(stretch.marked.as_str())?;
     Ok(marked)
 }
 
-fn text_before(alloc: Global, stretch: &Stretch) -> Result<Shown, AllocError> {
+fn text_before(alloc: Global, stretch: &Stretch) -> Result<Shown, AllocError>
+    ensures { is_quiet stretch.now.before ≡ true → IfOk result (λ before. chars_of before
+        ≡ dots stretch.now.has_more_before ++ chars (string_bytes stretch.now.before)) }
+{
     let mut before = Shown::new(alloc);
-    if stretch.has_more_before {
-        before.push_str("...")?;
-    }
+    push_dots(&mut before, stretch.has_more_before)?;
     before.push_str(stretch.before.as_str())?;
     Ok(before)
 }
 
-fn text_after(alloc: Global, stretch: &Stretch) -> Result<Shown, AllocError> {
+fn text_after(alloc: Global, stretch: &Stretch) -> Result<Shown, AllocError>
+    ensures { is_quiet stretch.now.after ≡ true → IfOk result (λ after. chars_of after
+        ≡ chars (string_bytes stretch.now.after) ++ dots stretch.now.has_more_after) }
+{
     let mut after = Shown::new(alloc);
     after.push_str(stretch.after.as_str())?;
-    if stretch.has_more_after {
-        after.push_str("...")?;
-    }
+    push_dots(&mut after, stretch.has_more_after)?;
     Ok(after)
+}
+
+// Appends three dots, where more of a line is not shown.
+fn push_dots(shown: &mut Shown, has_more: bool) -> Result<(), AllocError>
+    ensures { OnOk result (chars_of shown.new ≡ chars_of shown.old ++ dots has_more) }
+{
+    if has_more { shown.pad('.', 3) } else { Ok(()) }
 }

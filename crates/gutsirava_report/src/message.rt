@@ -1,5 +1,10 @@
 //! What is told: errors, warnings and their notes.
 
+ghost use Rattle.std.specs.Prelude.{◌≡◌, OnOk};
+ghost use Rattle.std.specs.Option.{option_copied};
+ghost use Rattle.gutsirava_report.specs.Gains.{head_of, Gains};
+ghost use Rattle.gutsirava_report.specs.Messages.{AddsHeaded, AddsNotes};
+
 use crate::excerpt::push_place;
 use crate::{FilePlace, Sheet, Style};
 use std::alloc::AllocError;
@@ -77,31 +82,58 @@ impl Severity {
 }
 
 impl Message {
-    /// Appends the message, with its notes.
-    pub fn push_onto(&self, sheet: &mut Sheet) -> Result<(), AllocError> {
-        let style = self.severity.style();
-        push_head(sheet, style, self.severity.word(), self.text.as_str())?;
-        if let Some(place) = &self.place {
-            push_place(sheet, place, style)?;
-        }
-        for note in &self.notes {
-            note.push_onto(sheet)?;
-        }
-        Ok(())
+    ghost use Rattle.std.specs.Prelude.{OnOk};
+    ghost use Rattle.gutsirava_report.specs.Messages.{AddsMessage};
+
+    /// Appends the message, with its place and its notes.
+    pub fn push_onto(&self, sheet: &mut Sheet) -> Result<(), AllocError>
+        ensures { OnOk result (AddsMessage self.now sheet.old sheet.new) }
+    {
+        let severity = self.severity;
+        let (style, word) = (severity.style(), severity.word());
+        push_headed(sheet, style, word, self.text.as_str(), self.place.as_ref())?;
+        push_notes(sheet, self.notes.as_slice())
     }
 }
 
-impl Note {
-    fn push_onto(&self, sheet: &mut Sheet) -> Result<(), AllocError> {
-        push_head(sheet, Style::Note, "note", self.text.as_str())?;
-        if let Some(place) = &self.place {
-            push_place(sheet, place, Style::Note)?;
-        }
-        Ok(())
+// Appends notes.
+fn push_notes(sheet: &mut Sheet, notes: &[Note]) -> Result<(), AllocError>
+    ensures { OnOk result (AddsNotes sheet.old notes.now sheet.new) }
+{
+    for note in notes {
+        push_headed(
+            sheet,
+            Style::Note,
+            "note",
+            note.text.as_str(),
+            note.place.as_ref(),
+        )?;
+    }
+    Ok(())
+}
+
+// Appends a line with a word and a text, and under it the place.
+fn push_headed(
+    sheet: &mut Sheet,
+    style: Style,
+    word: &str,
+    text: &str,
+    place: Option<&FilePlace>,
+) -> Result<(), AllocError>
+    ensures { OnOk result (AddsHeaded style word.now text.now (option_copied place.entry)
+        sheet.old sheet.new) }
+{
+    push_head(sheet, style, word, text)?;
+    match place {
+        Some(place) => push_place(sheet, place, style),
+        None => Ok(()),
     }
 }
 
-fn push_head(sheet: &mut Sheet, style: Style, word: &str, text: &str) -> Result<(), AllocError> {
+#[tactic(auto, using(std::proofs::lemmas::Grind::common_steps, crate::proofs::GainLemmas::gains_text, crate::proofs::GainLemmas::gains_end))]
+fn push_head(sheet: &mut Sheet, style: Style, word: &str, text: &str) -> Result<(), AllocError>
+    ensures { OnOk result (Gains sheet.old sheet.new (head_of style word.now text.now)) }
+{
     sheet.push(style, word)?;
     sheet.push(Style::Strong, ": ")?;
     sheet.push(Style::Strong, text)?;

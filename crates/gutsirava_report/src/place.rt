@@ -1,6 +1,7 @@
 //! Places in files.
 
-ghost use Rattle.std.specs.Prelude.{◌≡◌, ◌≤◌, ◌+◌, ◌++◌, length, false, IfOk};
+ghost use Rattle.std.specs.Prelude.{◌≡◌, ◌≤◌, ◌+◌, ◌++◌, length, false, None, IfOk, IsSomeAnd};
+ghost use Rattle.gutsirava_report.specs.Fronts.{has_byte, line_place, IsFront, IsLineAt};
 ghost use Rattle.std.specs.String.{string_bytes};
 ghost use Rattle.gutsirava_report.specs.Lines.{is_line_end, line_ends};
 
@@ -62,7 +63,8 @@ impl Drop for Stretch {
 impl FilePlace {
     /// The file with no line.
     pub fn of_file(alloc: Global, path: &str) -> Result<FilePlace, AllocError>
-        ensures { IfOk result (λ place. string_bytes place.path ≡ path.now) }
+        ensures path { IfOk result (λ place. string_bytes place.path ≡ path.now) }
+        ensures whole { IfOk result (λ place. place.stretch ≡ None) }
     {
         Ok(FilePlace {
             path: String::from_str(alloc, path)?,
@@ -79,7 +81,9 @@ impl FilePlace {
         at: usize,
         end: usize,
     ) -> Result<FilePlace, AllocError>
-        ensures { IfOk result (λ place. string_bytes place.path ≡ path.now) }
+        ensures path { IfOk result (λ place. string_bytes place.path ≡ path.now) }
+        ensures line { IfOk result (λ place. IsSomeAnd place.stretch
+            (λ it. IsLineAt text.now at it.line)) }
     {
         Ok(FilePlace {
             path: String::from_str(alloc, path)?,
@@ -89,7 +93,8 @@ impl FilePlace {
 }
 
 fn stretch_at(alloc: Global, text: &str, at: usize, end: usize) -> Result<Stretch, AllocError>
-    ensures { IfOk result (λ stretch. (1 ≤ stretch.line) × (1 ≤ stretch.column)) }
+    ensures from_1 { IfOk result (λ stretch. (1 ≤ stretch.line) × (1 ≤ stretch.column)) }
+    ensures line { IfOk result (λ stretch. IsLineAt text.now at stretch.line) }
 {
     let (front, rest) = split(text, before_line_feed(text, at));
     let line = line_after(front);
@@ -116,18 +121,30 @@ fn stretch_at(alloc: Global, text: &str, at: usize, end: usize) -> Result<Stretc
 fn split(text: &str, at: usize) -> (&str, &str)
     ensures whole { result.0.now ++ result.1.now ≡ text.now }
     ensures within { length result.0.now ≤ at }
+    ensures front { IsFront text.now at result.0.now }
 {
     text.split_at(text.floor_char_boundary(at))
 }
 
 // The byte, or the one before it where the two are a carriage return and a line feed: they end one line.
-fn before_line_feed(text: &str, at: usize) -> usize {
+fn before_line_feed(text: &str, at: usize) -> usize
+    ensures { result ≡ line_place text.now at }
+{
     let text = text.as_bytes();
     let before = at.saturating_sub(1);
-    if text.get(before).copied() == Some(b'\r') && text.get(at).copied() == Some(b'\n') {
+    if has_byte(text, before, b'\r') && has_byte(text, at, b'\n') {
         before
     } else {
         at
+    }
+}
+
+fn has_byte(text: &[u8], at: usize, byte: u8) -> bool
+    ensures { result ≡ has_byte text.now at byte }
+{
+    match text.get(at) {
+        Some(here) => *here == byte,
+        None => false,
     }
 }
 

@@ -3,3 +3,4 @@ pub mod Found
 pub mod Settings
 pub mod SettingsOf
 pub mod Told
+pub mod Formats

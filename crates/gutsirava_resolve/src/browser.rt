@@ -47,6 +47,24 @@ impl<F: FileSystem + Drop> Tree<F> {
         path: &str,
         settings: &Settings,
     ) -> Result<Option<Replacement>, ResolutionError> {
+        self.replaced(path, MapSubject::File, settings)
+    }
+
+    /// What takes the place of what is asked for by a path, whether a file is there or not.
+    pub(crate) fn replaced_place(
+        &mut self,
+        path: &str,
+        settings: &Settings,
+    ) -> Result<Option<Replacement>, ResolutionError> {
+        self.replaced(path, MapSubject::Place, settings)
+    }
+
+    fn replaced(
+        &mut self,
+        path: &str,
+        subject: MapSubject,
+        settings: &Settings,
+    ) -> Result<Option<Replacement>, ResolutionError> {
         let alloc = self.alloc;
         let Some(scope) = self.scope(folder_of(path))? else {
             return Ok(None);
@@ -59,11 +77,32 @@ impl<F: FileSystem + Drop> Tree<F> {
             .unwrap_or(path)
             .trim_start_matches('/');
         for (key, text) in replacements(package) {
-            if names_file(key.as_str(), inner, settings) {
+            if subject.is_named(key.as_str(), inner, settings) {
                 return Ok(Some(replacement_of(alloc, scope, text)?));
             }
         }
         Ok(None)
+    }
+}
+
+/// What a path stands for where the map is asked.
+#[derive(Clone, Copy)]
+enum MapSubject {
+    /// The file at the path.
+    File,
+    /// What a specifier names, before a file is sought.
+    Place,
+}
+
+impl MapSubject {
+    /// Whether a key is that of a path in the package. A key may leave out the ending of a file, or `/index` and an
+    /// ending, and so may the path of a place.
+    fn is_named(self, key: &str, inner: &str, settings: &Settings) -> bool {
+        let key = key.strip_prefix("./").unwrap_or(key);
+        match self {
+            MapSubject::File => completes_to(key, inner, settings),
+            MapSubject::Place => completes_to(inner, key, settings),
+        }
     }
 }
 
@@ -89,10 +128,9 @@ fn replacement_of(
     }
 }
 
-/// Whether a key names a file of the package: its path, or its path but for an ending, or for `/index` and an ending.
-fn names_file(key: &str, inner: &str, settings: &Settings) -> bool {
-    let key = key.strip_prefix("./").unwrap_or(key);
-    let Some(rest) = inner.strip_prefix(key) else {
+/// Whether a path is another one, or that with an ending, or that with `/index` and an ending.
+fn completes_to(front: &str, path: &str, settings: &Settings) -> bool {
+    let Some(rest) = path.strip_prefix(front) else {
         return false;
     };
     let ending = rest.strip_prefix("/index").unwrap_or(rest);

@@ -1,5 +1,8 @@
 //! What kind of module a file is.
 
+ghost use Rattle.std.specs.Prelude.{◌≢◌, IfOk};
+ghost use Rattle.gutsirava_resolve.specs.Formats.{IsFormatOf};
+
 use crate::error::ResolutionError;
 use crate::files::FileSystem;
 use crate::tree::Tree;
@@ -20,14 +23,22 @@ pub enum FileFormat {
 
 impl<F: FileSystem + Drop> Tree<F> {
     /// What kind of module the file at a path is.
-    pub(crate) fn format(&mut self, path: &str) -> Result<FileFormat, ResolutionError> {
+    pub(crate) fn format(&mut self, path: &str) -> Result<FileFormat, ResolutionError>
+        ensures { IfOk result (IsFormatOf path.now) }
+    {
         match extension(path) {
-            ".mjs" => return Ok(FileFormat::EcmaScript),
-            ".cjs" => return Ok(FileFormat::CommonJs),
-            ".json" => return Ok(FileFormat::Json),
-            ".node" => return Ok(FileFormat::Addon),
-            _ => {}
+            ".mjs" => Ok(FileFormat::EcmaScript),
+            ".cjs" => Ok(FileFormat::CommonJs),
+            ".json" => Ok(FileFormat::Json),
+            ".node" => Ok(FileFormat::Addon),
+            _ => self.package_format(path),
         }
+    }
+
+    // The same by the package that the file lies in.
+    fn package_format(&mut self, path: &str) -> Result<FileFormat, ResolutionError>
+        ensures { IfOk result (λ it. (it ≢ FileFormat.Json) × (it ≢ FileFormat.Addon)) }
+    {
         let Some(folder) = self.scope(folder_of(path))? else {
             return Ok(FileFormat::Undeclared);
         };

@@ -250,6 +250,49 @@ impl<F: FileSystem + Drop> Tree<F> {
         }
     }
 
+    /// The path that a specifier names in the nearest installed package of its name, where that has no exports.
+    pub(crate) fn inner_path(
+        &mut self,
+        specifier: &str,
+        folder: &str,
+    ) -> Result<Option<String>, ResolutionError> {
+        let Some((name, rest)) = split_package(specifier) else {
+            return Ok(None);
+        };
+        if rest.is_empty() {
+            return Ok(None);
+        }
+        let Some(package) = self.installed_folder(name, folder)? else {
+            return Ok(None);
+        };
+        if self.has_exports(package.as_str())? {
+            return Ok(None);
+        }
+        let text = inner_text(self.alloc, rest)?;
+        let path = join(self.alloc, package.as_str(), text.as_str())?;
+        Ok(Some(path))
+    }
+
+    /// The folder of the nearest installed package of a name, from a folder upwards.
+    fn installed_folder(
+        &mut self,
+        name: &str,
+        folder: &str,
+    ) -> Result<Option<String>, ResolutionError> {
+        let mut here = folder;
+        loop {
+            let modules = join(self.alloc, here, "node_modules")?;
+            let package = join(self.alloc, modules.as_str(), name)?;
+            if file_name(here) != "node_modules" && self.is_folder(package.as_str())? {
+                return Ok(Some(package));
+            }
+            let Some(above) = parent(here) else {
+                return Ok(None);
+            };
+            here = above;
+        }
+    }
+
     /// Whether the package in a folder has exports.
     fn has_exports(&mut self, folder: &str) -> Result<bool, ResolutionError> {
         match self.package(folder)? {

@@ -1,6 +1,8 @@
 //! The resolver: which file a specifier names.
-ghost use Rattle.std.specs.Prelude.{IfOk, IfSome, string_bytes};
+ghost use Rattle.std.specs.Prelude.{◌≡◌, IfOk, IfSome, string_bytes};
+ghost use Rattle.gutsirava_resolve.specs.Formats.{IsFormatOf};
 ghost use Rattle.gutsirava_resolve.specs.Found.{IsFileOf};
+ghost use Rattle.gutsirava_resolve.specs.declared.resolver.Resolved.TheVariants.{File};
 
 use crate::browser::Replacement;
 use crate::error::{ResolutionError, SpecifierFault};
@@ -64,7 +66,9 @@ pub struct Resolver<F: FileSystem> {
 
 impl<F: FileSystem + Drop> Resolver<F> {
     /// A resolver that has asked for nothing yet.
-    pub fn new(alloc: Global, files: F, settings: Settings) -> Resolver<F> {
+    pub fn new(alloc: Global, files: F, settings: Settings) -> Resolver<F>
+        ensures { result.settings ≡ settings }
+    {
         Resolver {
             alloc,
             settings,
@@ -73,7 +77,9 @@ impl<F: FileSystem + Drop> Resolver<F> {
     }
 
     /// What kind of module the file at a path is.
-    pub fn format(&mut self, path: &str) -> Result<FileFormat, ResolutionError> {
+    pub fn format(&mut self, path: &str) -> Result<FileFormat, ResolutionError>
+        ensures { IfOk result (IsFormatOf path.now) }
+    {
         self.tree.format(path)
     }
 
@@ -130,6 +136,9 @@ impl<F: FileSystem + Drop> Resolver<F> {
         if self.settings.externals.has_path(place.path.as_str()) {
             return Ok(Resolved::ExternalFile(place.path));
         }
+        if let Some(resolved) = self.mapped(place.path.as_str(), request.loader)? {
+            return Ok(resolved);
+        }
         let wanted = Wanted {
             specifier: request.specifier,
             folder,
@@ -137,7 +146,7 @@ impl<F: FileSystem + Drop> Resolver<F> {
             settings: &self.settings,
         };
         match self.tree.file_at(place, &wanted)? {
-            Some(found) => self.finish(found),
+            Some(found) => self.finish(found, request.loader),
             None => Err(self.tree.not_found(request.specifier)),
         }
     }
@@ -153,7 +162,7 @@ impl<F: FileSystem + Drop> Resolver<F> {
             settings: &self.settings,
         };
         match self.tree.internal_target(&wanted)? {
-            Internal::Inside(found) => self.finish(found),
+            Internal::Inside(found) => self.finish(found, request.loader),
             Internal::Package { folder, specifier } => {
                 self.resolve_package(specifier.as_str(), folder.as_str(), request.loader)
             }
@@ -222,8 +231,11 @@ impl<F: FileSystem + Drop> Resolver<F> {
         if let Specifier::Builtin(name) = Specifier::of(specifier, loader) {
             return self.resolve_builtin(name, specifier, folder, loader);
         }
+        if let Some(resolved) = self.mapped_inner(specifier, folder, loader)? {
+            return Ok(resolved);
+        }
         match self.find_package(specifier, folder, loader)? {
-            Some(found) => self.finish(found),
+            Some(found) => self.finish(found, loader),
             None => Err(self.tree.not_found(specifier)),
         }
     }
@@ -240,7 +252,7 @@ impl<F: FileSystem + Drop> Resolver<F> {
     {
         if self.settings.prefers_packages && !specifier.starts_with("node:") {
             if let Some(found) = self.find_package(specifier, folder, loader)? {
-                return self.finish(found);
+                return self.finish(found, loader);
             }
         }
         Ok(Resolved::Builtin(String::from_str(self.alloc, name)?))
@@ -265,8 +277,70 @@ impl<F: FileSystem + Drop> Resolver<F> {
         self.tree.package_file(&wanted)
     }
 
-    /// A file, or what takes its place.
-    fn finish(&mut self, found: Found) -> Result<Resolved, ResolutionError>
+    /// What the map `browser` has for a path, where that is found.
+    fn mapped(&mut self, path: &str, loader: Loader) -> Result<Option<Resolved>, ResolutionError>
+        ensures { IfOk result (λ it. IfSome it (IsFileOf F.has_file)) }
+    {
+        if !self.settings.uses_browser_map {
+            return Ok(None);
+        }
+        match self.tree.replaced_place(path, &self.settings)? {
+            None => Ok(None),
+            Some(Replacement::Empty) => {
+                let path = String::from_str(self.alloc, path)?;
+                Ok(Some(Resolved::Empty(path)))
+            }
+            Some(Replacement::Text { folder, text }) => {
+                self.replacing_file(&folder, &text, loader)
+            }
+        }
+    }
+
+    /// The same for a path in an installed package without `exports`.
+    fn mapped_inner(
+        &mut self,
+        specifier: &str,
+        folder: &str,
+        loader: Loader,
+    ) -> Result<Option<Resolved>, ResolutionError>
+        ensures { IfOk result (λ it. IfSome it (IsFileOf F.has_file)) }
+    {
+        if !self.settings.uses_browser_map {
+            return Ok(None);
+        }
+        match self.tree.inner_path(specifier, folder)? {
+            Some(path) => self.mapped(path.as_str(), loader),
+            None => Ok(None),
+        }
+    }
+
+    /// The file that a text of the map `browser` names in the folder of its package: the package of that name where one
+    /// is installed, else a path. It is not replaced in its turn.
+    fn replacing_file(
+        &mut self,
+        folder: &str,
+        text: &str,
+        loader: Loader,
+    ) -> Result<Option<Resolved>, ResolutionError>
+        ensures { IfOk result (λ it. IfSome it (IsFileOf F.has_file)) }
+    {
+        if !text.starts_with('.') {
+            if let Some(found) = self.find_package(text, folder, loader)? {
+                return Ok(Some(file_of(found)));
+            }
+        }
+        let place = NamedPlace::of_path(self.alloc, folder, text)?;
+        match self.tree.complete(&place, &self.settings, loader)? {
+            Some(path) => Ok(Some(Resolved::File {
+                path,
+                suffix: String::new(self.alloc),
+            })),
+            None => Ok(None),
+        }
+    }
+
+    /// A file, or what takes its place, where that is found.
+    fn finish(&mut self, found: Found, loader: Loader) -> Result<Resolved, ResolutionError>
         requires { F.has_file (string_bytes found.path) }
         ensures { IfOk result (IsFileOf F.has_file) }
     {
@@ -274,13 +348,13 @@ impl<F: FileSystem + Drop> Resolver<F> {
             return Ok(Resolved::ExternalFile(found.path));
         }
         match self.replacement(found.path.as_str())? {
-            None => Ok(Resolved::File {
-                path: found.path,
-                suffix: found.suffix,
-            }),
+            None => Ok(file_of(found)),
             Some(Replacement::Empty) => Ok(Resolved::Empty(found.path)),
             Some(Replacement::Text { folder, text }) => {
-                self.replace_file(&folder, &text, found.path.as_str())
+                match self.replacing_file(&folder, &text, loader)? {
+                    Some(resolved) => Ok(resolved),
+                    None => Ok(file_of(found)),
+                }
             }
         }
     }
@@ -292,26 +366,12 @@ impl<F: FileSystem + Drop> Resolver<F> {
         }
         self.tree.replaced_file(path, &self.settings)
     }
+}
 
-    /// The file that a text of the map `browser` names in the place of another.
-    fn replace_file(
-        &mut self,
-        folder: &str,
-        text: &str,
-        replaced: &str,
-    ) -> Result<Resolved, ResolutionError>
-        ensures { IfOk result (IsFileOf F.has_file) }
-    {
-        let place = NamedPlace::of_path(self.alloc, folder, text)?;
-        match self
-            .tree
-            .complete(&place, &self.settings, Loader::EcmaScript)?
-        {
-            Some(path) => Ok(Resolved::File {
-                path,
-                suffix: String::new(self.alloc),
-            }),
-            None => Err(self.tree.not_found(replaced)),
-        }
-    }
+/// A file that was found.
+fn file_of(found: Found) -> Resolved
+    ensures { result ≡ File found.path found.suffix }
+{
+    let Found { path, suffix } = found;
+    Resolved::File { path, suffix }
 }

@@ -1,6 +1,7 @@
 //! A file at a path, by the endings, or the main file of a folder.
 ghost use Rattle.std.specs.Prelude.{IfOk, IfSome, string_bytes};
 
+use crate::browser::Replacement;
 use crate::error::ResolutionError;
 use crate::files::FileSystem;
 use crate::settings::{MainField, Settings};
@@ -142,7 +143,8 @@ impl<F: FileSystem + Drop> Tree<F> {
         self.field_file(folder, settings, true)
     }
 
-    /// The file that the first field of a folder's package.json names.
+    /// The file that a field of a folder's package.json names: the first whose file is there. Behind `main` no other is
+    /// tried, as in Node.
     fn field_file(
         &mut self,
         folder: &str,
@@ -151,38 +153,77 @@ impl<F: FileSystem + Drop> Tree<F> {
     ) -> Result<Option<String>, ResolutionError>
         ensures { IfOk result (λ found. IfSome found (λ real. F.has_file (string_bytes real))) }
     {
+        for field in &settings.main_fields {
+            if !takes_module && *field == MainField::Module {
+                continue;
+            }
+            let Some(main) = self.field_path(folder, *field)? else {
+                continue;
+            };
+            let file = self.main_at(main.as_str(), settings)?;
+            if file.is_some() || *field == MainField::Main {
+                return Ok(file);
+            }
+        }
+        Ok(None)
+    }
+
+    /// The path that a field of a folder's package.json names, if it has that field and that is not empty.
+    fn field_path(
+        &mut self,
+        folder: &str,
+        field: MainField,
+    ) -> Result<Option<String>, ResolutionError> {
         let alloc = self.alloc;
-        let main = match self.package(folder)? {
-            None => return Ok(None),
-            Some(package) => match main_text(package, settings, takes_module) {
-                None => return Ok(None),
-                Some(text) => join_below(alloc, folder, text)?,
-            },
+        let Some(package) = self.package(folder)? else {
+            return Ok(None);
         };
-        let file = self.file_or_ending(main.as_str(), settings)?;
+        match field_text(package, field) {
+            Some(text) if !text.is_empty() => Ok(Some(join_below(alloc, folder, text)?)),
+            _ => Ok(None),
+        }
+    }
+
+    /// The file or the index at the path of a main file, or where neither is, what the map `browser` has for that path.
+    fn main_at(
+        &mut self,
+        path: &str,
+        settings: &Settings,
+    ) -> Result<Option<String>, ResolutionError>
+        ensures { IfOk result (λ found. IfSome found (λ real. F.has_file (string_bytes real))) }
+    {
+        let file = self.file_or_index(path, settings)?;
+        if file.is_some() || !settings.uses_browser_map {
+            return Ok(file);
+        }
+        match self.replaced_place(path, settings)? {
+            Some(Replacement::Text { folder, text }) => {
+                let path = join(self.alloc, folder.as_str(), text.as_str())?;
+                self.file_or_index(path.as_str(), settings)
+            }
+            Some(Replacement::Empty) | None => Ok(None),
+        }
+    }
+
+    /// The file at a path, at the path with an ending, or the index of the folder there.
+    fn file_or_index(
+        &mut self,
+        path: &str,
+        settings: &Settings,
+    ) -> Result<Option<String>, ResolutionError>
+        ensures { IfOk result (λ found. IfSome found (λ real. F.has_file (string_bytes real))) }
+    {
+        let file = self.file_or_ending(path, settings)?;
         if file.is_some() {
             return Ok(file);
         }
-        self.index_file(main.as_str(), settings)
+        self.index_file(path, settings)
     }
 }
 
 /// A path below a folder, even where it begins with `/`.
 fn join_below(alloc: Global, folder: &str, text: &str) -> Result<String, AllocError> {
     join(alloc, folder, text.trim_start_matches('/'))
-}
-
-/// The text of the first field that names a package's main file.
-fn main_text<'p>(package: &'p Package, settings: &Settings, takes_module: bool) -> Option<&'p str> {
-    for field in &settings.main_fields {
-        if !takes_module && *field == MainField::Module {
-            continue;
-        }
-        if let Some(text) = field_text(package, *field) {
-            return if text.is_empty() { None } else { Some(text) };
-        }
-    }
-    None
 }
 
 /// What a field says of a package's main file.

@@ -4,7 +4,7 @@ use Rattle.gutsirava_words.specs.declared.options.Options.{Options}
 use Rattle.gutsirava_words.specs.declared.error.WordsError.{WordsError}
 use Rattle.gutsirava_words.specs.declared.error.WordsError.TheVariants.{OutOfMemory}
 use Rattle.gutsirava_bundle.specs.declared.bundling.Bundled.{Bundled}
-use Rattle.gutsirava_bundle.specs.declared.settings.OutputFormat.{OutputFormat}
+use Rattle.gutsirava_graph.specs.declared.settings.OutputFormat.{OutputFormat}
 use Rattle.gutsirava_run.specs.Delivery.{StoredFile, KeepsAll, HasViews, delivery_of, files_for, stored_file}
 use Rattle.gutsirava_run.specs.Ending.{Known, Bundles, Ends, IsDelivered, IsUnwritten, IsRefused}
 use Rattle.gutsirava_run.specs.Making.{IsMade, format_of}

@@ -3,7 +3,7 @@ use Rattle.std.proofs.Common.{◌≡◌, sym, subst, ◌<◌, ◌+◌, ◌++◌,
 use Rattle.std.proofs.lemmas.List.{take_more}
 use Rattle.std.specs.List.{AllZip}
 use Rattle.gutsirava_words.specs.declared.options.EntryPoint.{EntryPoint}
-use Rattle.gutsirava_bundle.specs.declared.settings.BundleEntry.{BundleEntry}
+use Rattle.gutsirava_graph.specs.declared.settings.BundleEntry.{BundleEntry}
 use Rattle.gutsirava_run.specs.Making.{IsNamed}
 
 all_zip_push : {A B : Type 0} (R : A → B → Type 0) (xs : List A) (ys : List B) (x : A) (y : B)

@@ -7,8 +7,8 @@ use Rattle.gutsirava_words.specs.declared.options.Destination.{Destination}
 use Rattle.gutsirava_words.specs.declared.options.Destination.TheVariants.{Stdout, File, Folder}
 use Rattle.gutsirava_words.specs.declared.options.ViewChoices.{ViewChoices}
 use Rattle.gutsirava_bundle.specs.declared.bundling.BundleText.{BundleText}
-use Rattle.gutsirava_bundle.specs.declared.settings.OutputFormat.{OutputFormat}
-use Rattle.gutsirava_bundle.specs.declared.settings.OutputFormat.TheVariants.{Module, Iife}
+use Rattle.gutsirava_graph.specs.declared.settings.OutputFormat.{OutputFormat}
+use Rattle.gutsirava_graph.specs.declared.settings.OutputFormat.TheVariants.{Module, Iife}
 use Rattle.gutsirava_maps.specs.Comment.{data_url_of, link_text}
 use Rattle.gutsirava_path.specs.Places.{file_name}
 use Rattle.gutsirava_words.specs.declared.choice.SourceMap.{SourceMap}

@@ -37,12 +37,12 @@ use Rattle.bundle_js_print.specs.declared.text.Charset.{Charset}
 use Rattle.bundle_js_print.specs.declared.text.Charset.TheVariants as charsets
 use Rattle.gutsirava_bundle.specs.Command.{IsCommandAnswer}
 use Rattle.gutsirava_bundle.specs.declared.bundling.Bundled.{Bundled}
-use Rattle.gutsirava_bundle.specs.declared.settings.BundleEntry.{BundleEntry}
-use Rattle.gutsirava_bundle.specs.declared.settings.BundleSettings.{BundleSettings}
-use Rattle.gutsirava_bundle.specs.declared.settings.MapSetting.{MapSetting}
-use Rattle.gutsirava_bundle.specs.declared.settings.MapSetting.TheVariants.{Off, Paths, Contents}
-use Rattle.gutsirava_bundle.specs.declared.settings.OutputFormat.{OutputFormat}
-use Rattle.gutsirava_bundle.specs.declared.settings.OutputFormat.TheVariants as kinds
+use Rattle.gutsirava_graph.specs.declared.settings.BundleEntry.{BundleEntry}
+use Rattle.gutsirava_graph.specs.declared.settings.BundleSettings.{BundleSettings}
+use Rattle.gutsirava_graph.specs.declared.settings.MapSetting.{MapSetting}
+use Rattle.gutsirava_graph.specs.declared.settings.MapSetting.TheVariants.{Off, Paths, Contents}
+use Rattle.gutsirava_graph.specs.declared.settings.OutputFormat.{OutputFormat}
+use Rattle.gutsirava_graph.specs.declared.settings.OutputFormat.TheVariants as kinds
 
 -- a module or a script, as the options say
 abbrev pub format_of : FormatSetting → OutputFormat

@@ -51,11 +51,33 @@ pub fn exports_of<'a>(alloc: Global, pieces: &[Piece<'a>]) -> Result<Vec<Exporte
         has_source: false,
         inner: None,
     };
+    let mut next = 0;
     for at in 0..pieces.len() {
+        if at < next {
+            continue;
+        }
+        if walk.depth == 1 && exports_nothing(node_at(pieces, at)) {
+            next = end_of(pieces, at);
+            continue;
+        }
         add_exported(&mut names, pieces, at, walk)?;
         walk = walk_behind(pieces, at, walk);
     }
     Ok(names)
+}
+
+// Whether a node at the top of a module exports nothing.
+fn exports_nothing(node: Option<Node<'_>>) -> bool {
+    match node {
+        Some(
+            Node::ExportDecl
+            | Node::NamedExport { .. }
+            | Node::ExportDefaultDecl
+            | Node::ExportDefaultExpr,
+        ) => false,
+        Some(_) => true,
+        None => false,
+    }
 }
 
 // Adds the name that the piece at a place exports, if it does.

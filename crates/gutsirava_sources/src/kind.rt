@@ -1,6 +1,6 @@
 //! What a module is, by what is declared of its file, or else by its text.
 
-ghost use Rattle.std.specs.Prelude.{◌≡◌, ◌≤◌, ◌⊎◌, length, IfErr, IsOkAnd};
+ghost use Rattle.std.specs.Prelude.{◌≡◌, ◌≤◌, ◌⊎◌, length, IfErr, IsOkAnd, MatchResult};
 
 use bundle_js_read::{Goal, ReadError, SourceModule, SourceRecords};
 use std::alloc::Global;
@@ -26,7 +26,8 @@ pub fn read_as<'a>(
     text: &'a str,
     kind: SourceKind,
 ) -> Result<SourceModule<'a>, ReadError>
-    ensures { IfErr result (λ error. error.at ≤ length text.now) }
+    ensures { MatchResult result (λ source. source.text.now ≡ text.now)
+        (λ error. error.at ≤ length text.now) }
 {
     let goal = match kind {
         SourceKind::EcmaScript => Goal::Module,
@@ -58,7 +59,8 @@ pub fn read_known<'a>(
     text: &'a str,
     known: KnownKind,
 ) -> Result<SourceModule<'a>, ReadError>
-    ensures { IfErr result (λ error. error.at ≤ length text.now) }
+    ensures { MatchResult result (λ source. source.text.now ≡ text.now)
+        (λ error. error.at ≤ length text.now) }
 {
     let KnownKind { kind, records } = known;
     match records {

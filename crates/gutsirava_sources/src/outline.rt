@@ -139,6 +139,9 @@ impl<'a> RequestWalk<'a> {
         ensures open { OnOk result (All (λ around. around.begin < at + 1) self.new.nodes.items) }
         ensures all { OnOk result (All (IsRequest pieces.now) self.new.requests.items) }
     {
+        if !begins_node(pieces, at) {
+            return go_on(&mut self.nodes, turn_at(pieces, at, None), at);
+        }
         let outer = innermost(self.nodes.as_slice(), at);
         add_request(&mut self.requests, pieces, at, outer, free)?;
         if is_unknown(pieces, at, outer, free) {
@@ -146,6 +149,11 @@ impl<'a> RequestWalk<'a> {
         }
         go_on(&mut self.nodes, turn_at(pieces, at, outer), at)
     }
+}
+
+// Whether a node begins at a place.
+fn begins_node(pieces: &[Piece<'_>], at: usize) -> bool {
+    matches!(pieces.get(at), Some(Piece::Open { .. }))
 }
 
 // Whether a module has an import or an export.
@@ -465,6 +473,9 @@ fn mains_of(alloc: Global, pieces: &[Piece<'_>], free: &[usize]) -> Result<Vec<u
     ensures { IfOk result (λ places. IsNonDecreasing places.items) }
 {
     let mut places = Vec::new(alloc);
+    if free.is_empty() {
+        return Ok(places);
+    }
     for at in 0..pieces.len() {
         if is_main_read(pieces, at, free) {
             places.push(at)?;

@@ -1,11 +1,17 @@
 -- Marks that are told one after the other.
-use Rattle.std.proofs.Common.{◌≡◌, ℕ, zero, suc, ◌≤◌, List, [], ◌∷◌, ◌++◌, String, Option, Some, None, IsSomeAnd, slice_get, string_bytes, refl, ap, ◌∙◌, subst, append_assoc, arith}
+use Rattle.std.proofs.Common.{◌≡◌, ◌≢◌, ℕ, zero, suc, ◌≤◌, List, [], ◌∷◌, ◌++◌, String, Option, Some, None, IsSomeAnd, slice_get, string_bytes, refl, ap, sym, ◌∙◌, subst, append_assoc, arith}
 use Rattle.std.specs.declared.alloc.Global.{Global}
 use Rattle.gutsirava_traces.specs.declared.maker.MapMaker.{MapMaker}
 use Rattle.gutsirava_traces.specs.declared.maker.PrintedList.{PrintedList}
 use Rattle.gutsirava_traces.specs.declared.mark.MapMark.{MapMark}
 use Rattle.gutsirava_traces.specs.declared.source.SourceFile.{SourceFile}
-use Rattle.gutsirava_traces.specs.Told.{known, offset_of, IsMarkOf, IsNameAt, IsTold, Known, StandsAt, Tells, TellsFrom, TellsParts, Told}
+use Rattle.gutsirava_maps.specs.declared.mappings.MapOrigin.{MapOrigin}
+use Rattle.gutsirava_traces.specs.Traces.{place_of}
+use Rattle.gutsirava_traces.specs.declared.trace.TheConstants.{NOWHERE}
+use Rattle.gutsirava_traces.specs.declared.trace.OwnBegin.{OwnBegin}
+use Rattle.gutsirava_traces.specs.declared.trace.OwnForm.{OwnForm}
+use Rattle.gutsirava_traces.specs.declared.trace.OwnForm.TheVariants.{Same, Constant, Declaration, Gone}
+use Rattle.gutsirava_traces.specs.Told.{first_of, known, offset_of, place_within, BeginsTold, IsMarkOf, IsNameAt, IsOneTold, IsTold, Known, StandsAt, Tells, TellsFrom, TellsParts, Told}
 use Rattle.gutsirava_traces.specs.Told.Told.{Nothing, More}
 use Rattle.gutsirava_traces.specs.Told.TellsParts.{NoPart, Part}
 
@@ -128,14 +134,14 @@ other_tells list first last own at source old new low high told = record {
 
 -- what is told of a walk that begins here
 pub walk_began : (list other : PrintedList) (first first' last own own' : ℕ) (source new_source : SourceFile) (old new : MapMaker)
-    → other ≡ list → first' ≡ first → own ≤ own' → TellsFrom other first' last own' source new_source old new
+    → other ≡ list → first ≤ first' → own ≤ own' → TellsFrom other first' last own' source new_source old new
     → TellsFrom list first last own source new_source old new
 walk_began list other first first' last own own' source new_source old new same begin low told =
     let P : PrintedList → Type 0 = λ it. Tells it (record { first = first'; last = last; own = own'; own_last = told.own_last }) source new_source old new in
     record {
       own_last = told.own_last;
       tells = tells_wider list first last own told.own_last first' last own' told.own_last source new_source old new
-          (subst P same told.tells) (omega arith) (omega arith) low (omega arith);
+          (subst P same told.tells) begin (omega arith) low (omega arith);
     }
 
 -- parts behind parts
@@ -145,3 +151,55 @@ pub parts_then : (list : PrintedList) (first mid : ℕ) (s0 s1 : SourceFile) (m0
 parts_then list first mid s0 s1 m0 m1 last s2 m2 one NoPart = one
 parts_then list first mid s0 s1 m0 m1 last s2 m2 one (Part begin end own between new_source maker new before told) =
     Part begin end own between new_source maker new (parts_then list first mid s0 s1 m0 m1 begin between maker one before) told
+
+-- one mark is what is told of a piece
+pub one_tells : (list : PrintedList) (at own : ℕ) (source new_source : SourceFile) (old new : MapMaker)
+    → IsOneTold list at own source new_source old new
+    → Tells list (record { first = at; last = at; own = own; own_last = own }) source new_source old new
+one_tells list at own source new_source old new one =
+    tells_one list at own source new_source old new one.mark one.same one.step one.is
+
+-- a statement is not told from before its node and the one before that
+pub first_low : (form : OwnForm) (at : ℕ) → first_of form at ≤ at
+first_low Same at = omega arith
+first_low Constant at = omega arith
+first_low Declaration at = omega arith
+first_low Gone at = omega arith
+
+-- a statement is told by the walk that begins there
+pub begins_there : (other list : PrintedList) (own' own : OwnBegin) (from' first first' last : ℕ) (source new_source : SourceFile)
+    (old new : MapMaker) → other ≡ list → own' ≡ own → from' ≡ own.at → first' ≡ first
+    → BeginsTold own'.form from' other first' last source new_source old new
+    → BeginsTold own.form own.at list first last source new_source old new
+begins_there other list own' own from' first first' last source new_source old new same is from begin told =
+    let P : PrintedList → OwnBegin → ℕ → ℕ → Type 0 = λ l o f t. BeginsTold o.form f l t last source new_source old new in
+    subst (λ (l : PrintedList). P l own own.at first) same
+    (subst (λ (o : OwnBegin). P other o own.at first) is
+    (subst (λ (f : ℕ). P other own' f first) from (subst (λ (t : ℕ). P other own' from' t) begin told)))
+
+-- a piece is told with the name that was put down before
+pub one_told : (list : PrintedList) (at own : ℕ) (source new_source : SourceFile) (old mid new : MapMaker) (offset : ℕ)
+    (it : MapOrigin) → known new_source ≡ known source → mid ≡ record old { names = mid.names }
+    → ((more : List (String Global)) × (mid.names.names.items ≡ old.names.names.items ++ more))
+    → offset ≡ offset_of list at → place_of (known source).places own ≢ NOWHERE → it.source ≡ source.number
+    → it.place ≡ place_within (known source).text (place_of (known source).places own)
+    → IsNameAt (known source).text (place_of (known source).places own) mid.names.names.items it.name
+    → IsTold mid new (record { offset = offset; origin = Some it })
+    → IsOneTold list at own source new_source old new
+one_told list at own source new_source old mid new offset it stays same kept offset_is somewhere number place name step = record {
+  same = stays;
+  mark = record { offset = offset; origin = Some it };
+  step = told_named old mid new (record { offset = offset; origin = Some it }) same kept step;
+  is = record {
+    offset = offset_is;
+    origin = record {
+      somewhere = somewhere;
+      number = number;
+      place = place;
+      name = subst (λ (names : List (String Global)). IsNameAt (known source).text (place_of (known source).places own) names it.name)
+          (sym step.bundle.names)
+          (name_stays (known source).text (place_of (known source).places own) mid.names.names.items step.bundle.more it.name name);
+    };
+  };
+  origin = refl;
+}

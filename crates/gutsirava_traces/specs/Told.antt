@@ -1,5 +1,5 @@
 -- What a map is told of the pieces of a bundle's list.
-use Rattle.std.specs.Prelude.{◌≡◌, ◌≢◌, ◌≤◌, ◌+◌, ◌^◌, ◌-◌, ◌++◌, ◌==◌, ℕ, Bool, true, false, min, List, String, Option, Some, None, IfSome, IsSomeAnd, MatchOption, get_or, length, slice_get, slice_range, string_bytes}
+use Rattle.std.specs.Prelude.{◌≡◌, ◌≢◌, ◌≤◌, ◌+◌, ◌^◌, ◌-◌, ◌++◌, ◌==◌, ℕ, Bool, true, false, min, List, String, Option, Some, None, IfSome, IsSome, IsSomeAnd, MatchOption, get_or, length, slice_get, slice_range, string_bytes}
 use Rattle.std.specs.declared.alloc.Global.{Global}
 use Rattle.gutsirava_maps.specs.Mapping.{is_before, IsAdded}
 use Rattle.gutsirava_maps.specs.Places.{place_in}
@@ -12,6 +12,8 @@ use Rattle.gutsirava_traces.specs.declared.maker.PrintedList.{PrintedList}
 use Rattle.gutsirava_traces.specs.declared.mark.MapMark.{MapMark}
 use Rattle.gutsirava_traces.specs.declared.source.SourceFile.{SourceFile}
 use Rattle.gutsirava_traces.specs.declared.trace.OwnBegin.{OwnBegin}
+use Rattle.gutsirava_traces.specs.declared.trace.OwnForm.{OwnForm}
+use Rattle.gutsirava_traces.specs.declared.trace.OwnForm.TheVariants.{Same, Constant, Declaration, Gone}
 use Rattle.gutsirava_traces.specs.declared.trace.TheConstants.{NOWHERE}
 
 -- the place of a byte, or of the end
@@ -122,6 +124,16 @@ pub data Told (list : PrintedList) (source : Known) (old : MapMaker) (first own 
       → IsMarkOf list source new.names.names.items at its mark
       → Told list source old first own at its new
 
+-- one mark is told: of this piece of the bundle's list, and of this one of the module's
+pub record IsOneTold
+    (list : PrintedList) (at own : ℕ) (source new_source : SourceFile) (old new : MapMaker)
+    : Type 0 where
+  pub same : known new_source ≡ known source
+  pub mark : MapMark
+  pub step : IsTold old new mark
+  pub is : IsMarkOf list (known source) new.names.names.items at own mark
+  pub origin : IsSome mark.origin
+
 -- pieces of the bundle's list and of the module's, from one place of each up to another
 pub record Stretch : Type 0 where
   pub first : ℕ
@@ -147,6 +159,44 @@ pub record TellsFrom
   pub own_last : ℕ
   pub tells : Tells list (record { first = first; last = last; own = own; own_last = own_last })
       source new_source old new
+
+-- the piece of the module's list that is told of first, of a statement whose node begins there:
+-- that of an `export default` before its expression
+abbrev pub first_of : OwnForm → ℕ → ℕ
+first_of Constant at = at - 1
+first_of Same at = at
+first_of Declaration at = at
+first_of Gone at = at
+
+-- whether a statement stands in a bundle
+abbrev pub has_print : OwnForm → Bool
+has_print Gone = false
+has_print Same = true
+has_print Constant = true
+has_print Declaration = true
+
+-- a statement is told from its first piece on, and what is told behind that is told in order
+pub record IsBegun
+    (list : PrintedList) (first last own : ℕ) (source new_source : SourceFile)
+    (old new : MapMaker) : Type 0 where
+  pub mid_source : SourceFile
+  pub mid : MapMaker
+  pub begins : IsOneTold list first own source mid_source old mid
+  pub more : TellsFrom list first last own mid_source new_source mid new
+
+-- so it is where the statement stands in a bundle, and its first piece in the source
+abbrev pub BeginsTold : OwnForm → ℕ → PrintedList → ℕ → ℕ → SourceFile → SourceFile → MapMaker
+    → MapMaker → Type 0
+BeginsTold form own list first last source new_source old new =
+    has_print form ≡ true → place_of (known source).places (first_of form own) ≢ NOWHERE
+    → IsBegun list first last (first_of form own) source new_source old new
+
+-- the same of a statement of this number, if there is one
+abbrev pub StatementBegins : Option OwnBegin → PrintedList → ℕ → ℕ → SourceFile → SourceFile
+    → MapMaker → MapMaker → Type 0
+StatementBegins None list first last source new_source old new = Unit {0}
+StatementBegins (Some own) list first last source new_source old new =
+    BeginsTold own.form own.at list first last source new_source old new
 
 -- marks are told in parts, each of a stretch of the bundle's list behind those before
 pub data TellsParts (list : PrintedList) (first : ℕ) (source : SourceFile) (old : MapMaker)

@@ -71,11 +71,12 @@ pub struct MapMaker<'x> {
 }
 
 impl<'x> MapMaker<'x> {
-    ghost use Rattle.std.specs.Prelude.{◌≡◌, ◌≤◌, ◌++◌, [], List, None, String, IfOk, OnOk, string_bytes};
+    ghost use Rattle.std.specs.Prelude.{◌≡◌, ◌≢◌, ◌≤◌, ◌++◌, [], List, None, String, IfOk, OnOk, slice_get, string_bytes};
     ghost use Rattle.std.specs.declared.alloc.Global.{Global};
     ghost use Rattle.gutsirava_maps.specs.Mapping.{first_segment};
     ghost use Rattle.gutsirava_traces.specs.Ends.{end_of};
-    ghost use Rattle.gutsirava_traces.specs.Told.{begin_of, known, offset_of, waits_at, IsFinished, IsNameAt, IsTold, Tells, TellsFrom, TellsParts};
+    ghost use Rattle.gutsirava_traces.specs.Told.{begin_of, known, offset_of, waits_at, IsFinished, IsNameAt, IsOneTold, IsTold, StatementBegins, Tells, TellsFrom, TellsParts};
+    ghost use Rattle.gutsirava_traces.specs.Traces.{place_of};
 
     /// Of a bundle with this text, in which the print of the list begins at a byte.
     pub fn new(alloc: Global, text: &'x str, base: usize) -> MapMaker<'x>
@@ -98,8 +99,8 @@ impl<'x> MapMaker<'x> {
 
     /// Takes in an item, which begins at a place of the list, that stands for a statement of a source. Gives the place
     /// behind it. Each place that is told is that of a piece of the source's list, from the statement's begin on, and each
-    /// name stands there; along the bundle's list neither goes back. Refused only for memory, and where 32 bits cannot
-    /// number the names.
+    /// name stands there; along the bundle's list neither goes back. Where a statement stands in the bundle and its begin in
+    /// the source, its first piece is told. Refused only for memory, and where 32 bits cannot number the names.
     pub fn add_statement(
         &mut self,
         list: PrintedList<'_, '_>,
@@ -110,6 +111,9 @@ impl<'x> MapMaker<'x> {
         ensures behind { IfOk result (λ behind. at ≤ behind) }
         ensures told { IfOk result (λ behind. TellsFrom list.entry at behind
             (begin_of (known source.old) statement) source.old source.new self.old self.new) }
+        ensures begun { IfOk result (λ behind. StatementBegins
+            (slice_get (known source.old).statements statement) list.entry at behind
+            source.old source.new self.old self.new) }
     {
         match source.trace.statement(statement) {
             Some(own) => {
@@ -200,9 +204,11 @@ impl<'x> MapMaker<'x> {
         source: &mut SourceFile<'_>,
         own: usize,
     ) -> Result<(), AllocError>
-        ensures { OnOk result (Tells list.entry
+        ensures tells { OnOk result (Tells list.entry
             (record { first = at; last = at; own = own; own_last = own })
             source.old source.new self.old self.new) }
+        ensures one { OnOk result (place_of (known source.old).places own ≢ NOWHERE
+            → IsOneTold list.entry at own source.old source.new self.old self.new) }
     {
         let place = source.trace.place(own);
         if place == NOWHERE {

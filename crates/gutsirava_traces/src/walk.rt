@@ -21,8 +21,10 @@ pub(crate) struct StatementWalk<'x, 'a> {
 }
 
 impl<'x, 'a> StatementWalk<'x, 'a> {
-    ghost use Rattle.std.specs.Prelude.{◌≡◌, ◌≤◌, ◌-◌, IfOk, OnOk};
-    ghost use Rattle.gutsirava_traces.specs.Told.{Tells, TellsFrom};
+    ghost use Rattle.std.specs.Prelude.{◌≡◌, ◌≢◌, ◌≤◌, ◌-◌, true, IfOk, OnOk};
+    ghost use Rattle.gutsirava_traces.specs.Told.{first_of, has_print, known, BeginsTold, IsOneTold, Tells, TellsFrom};
+    ghost use Rattle.gutsirava_traces.specs.Traces.{place_of};
+    ghost use Rattle.gutsirava_traces.specs.declared.trace.TheConstants.{NOWHERE};
     ghost use Rattle.gutsirava_traces.specs.Walks.{GoesOn, IsMoved};
 
     /// Before the first step, where a statement stands in a bundle at a place.
@@ -33,6 +35,7 @@ impl<'x, 'a> StatementWalk<'x, 'a> {
         own: OwnBegin,
     ) -> StatementWalk<'x, 'a>
         ensures list { result.list ≡ list.entry }
+        ensures own { result.own ≡ own }
         ensures from { result.from ≡ own.at }
         ensures to { result.to ≡ to }
     {
@@ -55,6 +58,8 @@ impl<'x, 'a> StatementWalk<'x, 'a> {
         ensures behind { IfOk result (λ behind. self.entry.to ≤ behind) }
         ensures told { IfOk result (λ behind. TellsFrom self.entry.list self.entry.to behind
             (self.entry.from - 1) source.old source.new maker.old maker.new) }
+        ensures begun { IfOk result (λ behind. BeginsTold self.entry.own.form self.entry.from
+            self.entry.list self.entry.to behind source.old source.new maker.old maker.new) }
     {
         if self.own.form == OwnForm::Gone {
             return Ok(self.to);
@@ -88,18 +93,26 @@ impl<'x, 'a> StatementWalk<'x, 'a> {
         Ok(self.to)
     }
 
-    // Goes over what stands before the statement in a bundle. Gives how many nodes end behind it.
+    // Goes over what stands before the statement in a bundle, and tells where that, or the statement, begins. Gives how many nodes end behind it.
     #[tactic(auto, using(std::proofs::lemmas::Grind::common_steps, crate::proofs::WalkLemmas::goes_nowhere))]
     fn begin(
         &mut self,
         maker: &mut MapMaker<'_>,
         source: &mut SourceFile<'_>,
     ) -> Result<usize, AllocError>
-        ensures { OnOk result (GoesOn (self.old.from - 1) self.old self.new source.old source.new
+        ensures goes { OnOk result (GoesOn (self.old.from - 1) self.old self.new source.old source.new
             maker.old maker.new) }
+        ensures one { OnOk result (has_print self.old.own.form ≡ true
+            → place_of (known source.old).places (first_of self.old.own.form self.old.from) ≢ NOWHERE
+            → IsOneTold self.old.list self.old.to (first_of self.old.own.form self.old.from)
+            source.old source.new maker.old maker.new) }
     {
         match self.own.form {
-            OwnForm::Same | OwnForm::Gone => Ok(0),
+            OwnForm::Gone => Ok(0),
+            OwnForm::Same => {
+                self.tell(maker, source)?;
+                Ok(0)
+            }
             OwnForm::Constant => {
                 let own = self.from.saturating_sub(1);
                 maker.tell_piece(self.list, self.to, source, own)?;
@@ -312,7 +325,7 @@ impl<'x, 'a> StatementWalk<'x, 'a> {
 
     // Tells where a piece comes from.
     fn tell(&self, maker: &mut MapMaker<'_>, source: &mut SourceFile<'_>) -> Result<(), AllocError>
-        ensures { OnOk result (Tells self.now.list
+        ensures tells { OnOk result (Tells self.now.list
             (record {
               first = self.now.to;
               last = self.now.to;
@@ -320,6 +333,9 @@ impl<'x, 'a> StatementWalk<'x, 'a> {
               own_last = self.now.from;
             })
             source.old source.new maker.old maker.new) }
+        ensures one { OnOk result (place_of (known source.old).places self.now.from ≢ NOWHERE
+            → IsOneTold self.now.list self.now.to self.now.from source.old source.new
+            maker.old maker.new) }
     {
         maker.tell_piece(self.list, self.to, source, self.from)
     }

@@ -1,3 +1,5 @@
 pub mod BoxLemmas
 pub mod LayerLemmas
+pub mod MetafileLemmas
 pub mod TextLemmas
+pub mod WritingLemmas

@@ -36,17 +36,23 @@ fn push_output(
     overview: &Overview,
     output: &OutputView,
 ) -> Result<(), AllocError> {
-    let alloc = sheet.allocator();
-    let lines = lines_of(alloc, overview, output)?;
-    let columns = widest(alloc, output.path.as_str(), lines.as_slice())?;
-    let whole = AnalysisLine {
-        name: output.path.clone()?,
-        bytes: output.bytes,
-    };
+    let lines = lines_of(sheet.allocator(), overview, output)?;
+    push_lines(sheet, output.path.as_str(), lines.as_slice(), output.bytes)
+}
+
+// Appends the line of a bundle of so many bytes, and those below it.
+fn push_lines(
+    sheet: &mut Sheet,
+    path: &str,
+    lines: &[AnalysisLine],
+    bytes: usize,
+) -> Result<(), AllocError> {
+    let columns = widest(sheet.allocator(), path, lines)?;
     sheet.end_line()?;
-    push_line(sheet, &whole, output.bytes, columns, Style::Strong)?;
-    for line in &lines {
-        push_line(sheet, line, output.bytes, columns, Style::Plain)?;
+    push_line(sheet, path, bytes, bytes, columns, Style::Strong)?;
+    for line in lines {
+        let name = line.name.as_str();
+        push_line(sheet, name, line.bytes, bytes, columns, Style::Plain)?;
     }
     Ok(())
 }
@@ -61,35 +67,56 @@ fn lines_of(
     let shares = shares_of(alloc, parts, overview.inputs.len(), output.bytes)?;
     let order = by_size(alloc, shares.as_slice())?;
     let mut lines = Vec::new(alloc);
-    let mut rest = output.bytes;
-    let mut others = 0;
-    let mut left = 0;
-    for (bytes, input) in order.iter().rev() {
-        rest = rest.saturating_sub(*bytes);
-        if lines.len() < MOST {
-            let name = format!(in alloc; "  {}", overview.path_of(*input))?;
-            push_entry(&mut lines, name, *bytes)?;
-        } else {
-            others = usize::saturating_add(others, 1);
-            left = usize::saturating_add(left, *bytes);
-        }
-    }
-    if left > 0 {
-        push_entry(&mut lines, format!(in alloc; "  {others} more")?, left)?;
-    }
-    if rest > 0 {
-        push_entry(
-            &mut lines,
-            String::from_str(alloc, "  (what joins them)")?,
-            rest,
-        )?;
-    }
+    push_inputs(&mut lines, alloc, overview, order.as_slice())?;
+    push_rest(&mut lines, alloc, order.as_slice(), output.bytes)?;
     Ok(lines)
+}
+
+// Appends a line for each of the largest shares; they stand last.
+fn push_inputs(
+    lines: &mut Vec<AnalysisLine>,
+    alloc: Global,
+    overview: &Overview,
+    order: &[(usize, usize)],
+) -> Result<(), AllocError> {
+    for (bytes, input) in order.iter().rev().take(MOST) {
+        let name = format!(in alloc; "  {}", overview.path_of(*input))?;
+        push_entry(lines, name, *bytes)?;
+    }
+    Ok(())
+}
+
+// Appends the lines of what has none of its own: the other shares, and what no input has.
+fn push_rest(
+    lines: &mut Vec<AnalysisLine>,
+    alloc: Global,
+    order: &[(usize, usize)],
+    bytes: usize,
+) -> Result<(), AllocError> {
+    let others = order.len().saturating_sub(MOST);
+    let left = bytes_of(order.get(..others).unwrap_or(&[]));
+    if left > 0 {
+        push_entry(lines, format!(in alloc; "  {others} more")?, left)?;
+    }
+    let rest = bytes.saturating_sub(bytes_of(order));
+    if rest > 0 {
+        let name = String::from_str(alloc, "  (what joins them)")?;
+        push_entry(lines, name, rest)?;
+    }
+    Ok(())
 }
 
 fn push_entry(lines: &mut Vec<AnalysisLine>, name: String, bytes: usize) -> Result<(), AllocError> {
     lines.push(AnalysisLine { name, bytes })?;
     Ok(())
+}
+
+fn bytes_of(shares: &[(usize, usize)]) -> usize {
+    let mut sum: usize = 0;
+    for (bytes, _) in shares {
+        sum = sum.saturating_add(*bytes);
+    }
+    sum
 }
 
 // The shares that are not empty, each with its input, the smallest first.
@@ -122,23 +149,40 @@ fn columns_of(alloc: Global, text: &str) -> Result<usize, AllocError> {
 // Appends a line: name, size, part of the whole, and a bar.
 fn push_line(
     sheet: &mut Sheet,
-    line: &AnalysisLine,
+    name: &str,
+    bytes: usize,
     whole: usize,
     columns: usize,
     style: Style,
 ) -> Result<(), AllocError> {
     let alloc = sheet.allocator();
-    let name = padded(alloc, line.name.as_str(), columns)?;
     sheet.push(Style::Plain, "  ")?;
-    sheet.push_shown(style, name)?;
-    let size = size_text(alloc, line.bytes)?;
-    let thousandths = part_of(line.bytes, whole, 1000);
-    let (percent, tenth) = (thousandths / 10, thousandths % 10);
-    let figures = format!(in alloc; "{size:>11}{percent:>5}.{tenth}%  ")?;
-    sheet.push(style, figures.as_str())?;
-    let bar = bar_of(alloc, part_of(line.bytes, whole, WIDE * 8))?;
+    sheet.push_shown(style, padded(alloc, name, columns)?)?;
+    push_figures(sheet, bytes, whole, style)?;
+    let bar = bar_of(alloc, part_of(bytes, whole, WIDE * 8))?;
     sheet.push(Style::Note, bar.as_str())?;
     sheet.end_line()
+}
+
+// Appends a size, and which part of the whole it is.
+fn push_figures(
+    sheet: &mut Sheet,
+    bytes: usize,
+    whole: usize,
+    style: Style,
+) -> Result<(), AllocError> {
+    let alloc = sheet.allocator();
+    let size = size_text(alloc, bytes)?;
+    let percent = percent_text(alloc, part_of(bytes, whole, 1000))?;
+    let figures = format!(in alloc; "{size:>11}{percent:>8}  ")?;
+    sheet.push(style, figures.as_str())
+}
+
+// So many thousandths, as `12.3%`.
+fn percent_text(alloc: Global, thousandths: usize) -> Result<String, AllocError> {
+    let percent = thousandths / 10;
+    let tenth = thousandths % 10;
+    format!(in alloc; "{percent}.{tenth}%")
 }
 
 // So many parts of a whole, of which the whole has so many.
@@ -162,19 +206,20 @@ fn padded(alloc: Global, name: &str, columns: usize) -> Result<Shown, AllocError
 
 // A bar of so many eighths of a column.
 fn bar_of(alloc: Global, eighths: usize) -> Result<String, AllocError> {
-    let mut bar = String::new(alloc);
-    for _ in 0..eighths / 8 {
-        bar.push('\u{2588}')?;
-    }
-    match eighths % 8 {
-        0 => {}
-        1 => bar.push('\u{258f}')?,
-        2 => bar.push('\u{258e}')?,
-        3 => bar.push('\u{258d}')?,
-        4 => bar.push('\u{258c}')?,
-        5 => bar.push('\u{258b}')?,
-        6 => bar.push('\u{258a}')?,
-        _ => bar.push('\u{2589}')?,
-    }
+    let mut bar = "\u{2588}".repeat(alloc, eighths / 8)?;
+    bar.push_str(last_eighths(eighths % 8))?;
     Ok(bar)
+}
+
+fn last_eighths(eighths: usize) -> &'static str {
+    match eighths {
+        0 => "",
+        1 => "\u{258f}",
+        2 => "\u{258e}",
+        3 => "\u{258d}",
+        4 => "\u{258c}",
+        5 => "\u{258b}",
+        6 => "\u{258a}",
+        _ => "\u{2589}",
+    }
 }

@@ -1,132 +1,154 @@
 //! JSON, written straight.
 
-ghost use Rattle.std.specs.Prelude.{◌≡◌, ◌++◌, ◌<◌, OnOk, chars, flat_map, string_bytes};
-ghost use Rattle.gutsirava_views.specs.Json.{char_text, control_text, digit_of, quoted};
+ghost use Rattle.std.specs.Prelude.{◌≡◌, ℕ, ◌+◌, ◌++◌, ◌∷◌, ◌<◌, [], true, IfOk, OnOk, chars, codes, decimal, flat_map, string_bytes};
+ghost use Rattle.gutsirava_views.specs.Json.{char_text, control_text, digit_of, key_of, line, member, quoted, string_of};
+ghost use Rattle.gutsirava_views.specs.Writing.{AddsItems, BeginsItem, Closes, Opens, OpensItem};
 
 use std::alloc::{AllocError, Global};
 
-/// A JSON text (RFC 8259) that is being written, each member on a line of its own.
+/// A JSON text (RFC 8259) that is being written, each member and each element on a line of its own.
 #[derive(Drop)]
-pub struct JsonWriter {
+pub(crate) struct JsonWriter {
     alloc: Global,
     text: String,
     depth: usize,
-    /// Whether the next value is the first of its object or array.
+    /// Whether the next item is the first of its object or array.
     is_first: bool,
-    /// Whether a key stands before the next value.
-    has_key: bool,
 }
 
 impl JsonWriter {
-    pub fn new(alloc: Global) -> JsonWriter {
+    pub(crate) fn new(alloc: Global) -> JsonWriter
+        ensures { (string_bytes result.text ≡ []) × (result.depth ≡ 0) }
+    {
         JsonWriter {
             alloc,
             text: String::new(alloc),
             depth: 0,
             is_first: true,
-            has_key: true,
         }
     }
 
     /// The text, with the end of its last line.
-    pub fn finish(self) -> Result<String, AllocError> {
-        let JsonWriter {
-            alloc: _alloc,
-            mut text,
-            depth: _depth,
-            is_first: _is_first,
-            has_key: _has_key,
-        } = self;
-        text.push('\n')?;
+    pub(crate) fn finish(self) -> Result<String, AllocError>
+        ensures { IfOk result (λ text.
+            string_bytes text ≡ string_bytes self.text ++ codes "\n") }
+    {
+        let JsonWriter { mut text, .. } = self;
+        text.push_str("\n")?;
         Ok(text)
     }
 
-    pub fn begin_object(&mut self) -> Result<(), AllocError> {
-        self.begin('{')
-    }
-
-    pub fn begin_array(&mut self) -> Result<(), AllocError> {
-        self.begin('[')
-    }
-
-    pub fn end_object(&mut self) -> Result<(), AllocError> {
-        self.end('}')
-    }
-
-    pub fn end_array(&mut self) -> Result<(), AllocError> {
-        self.end(']')
-    }
-
-    /// Writes the key of the next value.
-    pub fn key(&mut self, key: &str) -> Result<(), AllocError> {
-        self.place()?;
-        push_quoted(&mut self.text, key)?;
-        self.text.push_str(": ")?;
-        self.has_key = true;
-        Ok(())
-    }
-
-    pub fn string(&mut self, value: &str) -> Result<(), AllocError> {
-        self.place()?;
-        push_quoted(&mut self.text, value)
-    }
-
-    pub fn number(&mut self, value: usize) -> Result<(), AllocError> {
-        self.place()?;
-        let digits = format!(in self.alloc; "{value}")?;
-        self.text.push_str(digits.as_str())
-    }
-
-    pub fn is_true(&mut self) -> Result<(), AllocError> {
-        self.place()?;
-        self.text.push_str("true")
-    }
-
-    // Begins an object or an array.
-    fn begin(&mut self, bracket: char) -> Result<(), AllocError> {
-        self.place()?;
-        self.text.push(bracket)?;
+    /// Begins an object or an array.
+    pub(crate) fn open(&mut self, bracket: &str) -> Result<(), AllocError>
+        ensures { OnOk result (self.old.depth < 100 → Opens bracket.now self.old self.new) }
+    {
+        self.text.push_str(bracket)?;
         self.depth = self.depth.saturating_add(1);
         self.is_first = true;
         Ok(())
     }
 
-    // Ends it: on the same line where it is empty.
-    fn end(&mut self, bracket: char) -> Result<(), AllocError> {
+    /// Ends it: on the same line where it is empty.
+    pub(crate) fn close(&mut self, bracket: &str) -> Result<(), AllocError>
+        ensures { OnOk result (Closes bracket.now self.old self.new) }
+    {
         self.depth = self.depth.saturating_sub(1);
         if !self.is_first {
-            self.break_line()?;
+            push_line(self.alloc, &mut self.text, self.depth)?;
         }
         self.is_first = false;
-        self.text.push(bracket)
+        self.text.push_str(bracket)
     }
 
-    // Writes what stands before a key or a value.
-    fn place(&mut self) -> Result<(), AllocError> {
-        if self.has_key {
-            self.has_key = false;
-            return Ok(());
-        }
+    /// Begins a member whose value is an object or an array.
+    pub(crate) fn open_member(&mut self, key: &str, bracket: &str) -> Result<(), AllocError>
+        ensures { OnOk result (self.old.depth < 100
+            → OpensItem (key_of key.now) bracket.now self.old self.new) }
+    {
+        self.begin_member(key)?;
+        self.open(bracket)
+    }
+
+    /// Begins an object or an array as an element.
+    pub(crate) fn open_element(&mut self, bracket: &str) -> Result<(), AllocError>
+        ensures { OnOk result (self.old.depth < 100
+            → OpensItem [] bracket.now self.old self.new) }
+    {
+        self.begin_item()?;
+        self.open(bracket)
+    }
+
+    /// Writes a member that is a string.
+    pub(crate) fn put_text(&mut self, key: &str, value: &str) -> Result<(), AllocError>
+        ensures { OnOk result ((depth : ℕ) → self.old.depth ≡ depth → AddsItems depth
+            (member key.now (string_of value.now) ∷ []) self.old self.new) }
+    {
+        self.begin_member(key)?;
+        push_quoted(&mut self.text, value)
+    }
+
+    /// Writes a member that is a number.
+    pub(crate) fn put_number(&mut self, key: &str, value: usize) -> Result<(), AllocError>
+        ensures { OnOk result ((depth : ℕ) → self.old.depth ≡ depth → AddsItems depth
+            (member key.now (decimal value) ∷ []) self.old self.new) }
+    {
+        self.begin_member(key)?;
+        let digits = format!(in self.alloc; "{value}")?;
+        self.text.push_str(digits.as_str())
+    }
+
+    /// Writes a member that is `true`.
+    pub(crate) fn put_true(&mut self, key: &str) -> Result<(), AllocError>
+        ensures { OnOk result ((depth : ℕ) → self.old.depth ≡ depth → AddsItems depth
+            (member key.now (codes "true") ∷ []) self.old self.new) }
+    {
+        self.begin_member(key)?;
+        self.text.push_str("true")
+    }
+
+    /// Writes an element that is a string.
+    pub(crate) fn put_element(&mut self, value: &str) -> Result<(), AllocError>
+        ensures { OnOk result ((depth : ℕ) → self.old.depth ≡ depth → AddsItems depth
+            (string_of value.now ∷ []) self.old self.new) }
+    {
+        self.begin_item()?;
+        push_quoted(&mut self.text, value)
+    }
+
+    // Writes what stands before the value of a member.
+    fn begin_member(&mut self, key: &str) -> Result<(), AllocError>
+        ensures { OnOk result (BeginsItem (key_of key.now) self.old self.new) }
+    {
+        self.begin_item()?;
+        push_quoted(&mut self.text, key)?;
+        self.text.push_str(": ")
+    }
+
+    // Writes what stands before an item.
+    fn begin_item(&mut self) -> Result<(), AllocError>
+        ensures { OnOk result (BeginsItem [] self.old self.new) }
+    {
         if !self.is_first {
-            self.text.push(',')?;
+            self.text.push_str(",")?;
         }
         self.is_first = false;
-        self.break_line()
+        push_line(self.alloc, &mut self.text, self.depth)
     }
+}
 
-    fn break_line(&mut self) -> Result<(), AllocError> {
-        self.text.push('\n')?;
-        for _ in 0..self.depth {
-            self.text.push_str("  ")?;
-        }
-        Ok(())
-    }
+// Appends a line of its own, so deep.
+fn push_line(alloc: Global, text: &mut String, depth: usize) -> Result<(), AllocError>
+    ensures { OnOk result (string_bytes text.new ≡ string_bytes text.old ++ line depth) }
+{
+    let blanks = "  ".repeat(alloc, depth)?;
+    text.push_str("\n")?;
+    text.push_str(blanks.as_str())
 }
 
 // Appends a string in its quotes.
 fn push_quoted(text: &mut String, value: &str) -> Result<(), AllocError>
     ensures { OnOk result (string_bytes text.new
-        ≡ string_bytes text.old ++ quoted (chars value.now)) }
+        ≡ string_bytes text.old ++ string_of value.now) }
 {
     text.push('"')?;
     push_escaped(text, value)?;

@@ -11,7 +11,6 @@ mod shares;
 mod sizes;
 
 pub use analysis::analysis_text;
-pub use json::JsonWriter;
 pub use metafile::metafile_text;
 pub use overview::{
     ImportKind, ImportTarget, ImportView, InputFormat, InputView, OutputPart, OutputView, Overview,

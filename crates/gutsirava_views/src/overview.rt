@@ -1,5 +1,8 @@
 //! What a run read and wrote.
 
+ghost use Rattle.std.specs.Prelude.{◌≡◌};
+ghost use Rattle.gutsirava_views.specs.Metafile as metafile;
+
 /// What a run read and wrote.
 #[derive(Drop)]
 pub struct Overview {
@@ -84,10 +87,22 @@ pub struct OutputPart {
 
 impl Overview {
     /// The path of an input.
-    pub fn path_of(&self, input: usize) -> &str {
+    pub fn path_of(&self, input: usize) -> &str
+        ensures { result.now ≡ metafile.path_of self.now input }
+    {
         match self.inputs.get(input) {
             Some(input) => input.path.as_str(),
             None => "",
+        }
+    }
+
+    /// The path of what a module asks for, or the specifier of what is external.
+    pub(crate) fn target_of<'o>(&'o self, target: &'o ImportTarget) -> &'o str
+        ensures { result.now ≡ metafile.target_of self.now target.now }
+    {
+        match target {
+            ImportTarget::Input(input) => self.path_of(*input),
+            ImportTarget::External(specifier) => specifier.as_str(),
         }
     }
 }

@@ -1,6 +1,7 @@
 //! How many bytes of a bundle were made for which input.
 
-ghost use Rattle.std.specs.Prelude.{◌≡◌, ◌+◌, ◌≤◌, IfOk, sum, vec_len};
+ghost use Rattle.std.specs.Prelude.{◌≡◌, ℕ, ◌+◌, ◌<◌, ◌≤◌, ◌==◌, IfOk, length, slice_index, sum, vec_len, if◌then◌else◌};
+ghost use Rattle.gutsirava_views.specs.Shares.{done_behind, part_bytes, share_of};
 
 use crate::OutputPart;
 use std::alloc::{AllocError, Global};
@@ -14,25 +15,34 @@ pub fn shares_of(
 ) -> Result<Vec<usize>, AllocError>
     ensures each { IfOk result (λ shares. vec_len shares ≡ inputs) }
     ensures within { IfOk result (λ shares. sum shares.items ≤ bytes) }
+    ensures exact { IfOk result (λ shares. (input : ℕ) → input < inputs
+        → slice_index shares.items input ≡ share_of parts.now bytes input) }
 {
     let mut shares = vec![in alloc; 0; inputs]?;
     let mut done = 0;
     for part in parts {
-        let end = part.end.min(bytes);
-        let begin = part.begin.max(done);
-        if begin < end {
-            add(shares.as_mut_slice(), part.input, end - begin);
-            done = end;
-        }
+        done = count(shares.as_mut_slice(), *part, done, bytes);
     }
     Ok(shares)
 }
 
-// Adds so many bytes to the share of an input.
-fn add(shares: &mut [usize], input: usize, bytes: usize)
-    ensures { sum shares.new ≤ sum shares.old + bytes }
+// Counts what a part has of the bytes from `done` on; up to where bytes are counted behind it.
+fn count(shares: &mut [usize], part: OutputPart, done: usize, bytes: usize) -> usize
+    requires within { sum shares.old ≤ done }
+    requires below { done ≤ bytes }
+    ensures behind { result ≡ done_behind done bytes part }
+    ensures within { (sum shares.new ≤ result) × (result ≤ bytes) }
+    ensures exact { (input : ℕ) → input < length shares.old
+        → slice_index shares.new input ≡ slice_index shares.old input
+        + (if part.input == input then part_bytes done bytes part else 0) }
 {
-    if input < shares.len() {
-        shares[input] = shares[input].saturating_add(bytes);
+    let end = part.end.min(bytes);
+    let begin = part.begin.max(done);
+    if end <= begin {
+        return done;
     }
+    if part.input < shares.len() {
+        shares[part.input] = shares[part.input].saturating_add(end - begin);
+    }
+    end
 }

@@ -244,7 +244,7 @@ impl LogLevel {
 }
 
 impl Color {
-    ghost use Rattle.std.specs.Prelude.{◌≡◌, ◌≢◌, Some, None, false, IfSome, IfNone, IsTrue};
+    ghost use Rattle.std.specs.Prelude.{◌≡◌, ◌≢◌, ◌==◌, ◌&&◌, Some, None, false, length, IfSome, IfNone, IsTrue};
     ghost use Rattle.gutsirava_words.specs.Choice.{color_text};
 
     /// The one with this word, or `None` where there is none.
@@ -267,6 +267,8 @@ impl Color {
         ensures never { self ≡ Color.Never → result ≡ false }
         ensures terminal { self ≡ Color.Auto → IsTrue result → IsTrue is_terminal }
         ensures bare { self ≡ Color.Auto → no_color.entry ≡ None → result ≡ is_terminal }
+        ensures asked { self ≡ Color.Auto → IfSome no_color.entry
+            (λ value. result ≡ (is_terminal && (length value.now == 0))) }
     {
         match self {
             Color::Always => true,

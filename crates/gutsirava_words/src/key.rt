@@ -29,7 +29,8 @@ pub enum Key {
 
 impl Key {
     ghost use Rattle.std.specs.Prelude.{◌≡◌, ◌≢◌, Some, IfSome, IfNone};
-    ghost use Rattle.gutsirava_words.specs.Key.{adds_up, key_text};
+    ghost use Rattle.std.specs.Option.{option_map};
+    ghost use Rattle.gutsirava_words.specs.Key.{adds_up, key_named, key_text, plain_text, values_text};
 
     /// The option as it is written.
     pub fn name(self) -> &'static str
@@ -63,6 +64,15 @@ impl Key {
 
     /// The option that is written so, or `None` where there is none.
     pub fn from_name(name: &str) -> Option<Key>
+        ensures found { IfSome result (λ it. key_text it ≡ name.now) }
+        ensures none { IfNone result ((it : Key) → key_text it ≢ name.now) }
+        ensures named { result ≡ key_named name.now }
+    {
+        Key::written(name)
+    }
+
+    // The same, by the name alone.
+    fn written(name: &str) -> Option<Key>
         ensures found { IfSome result (λ it. key_text it ≡ name.now) }
         ensures none { IfNone result ((it : Key) → key_text it ≢ name.now) }
     {
@@ -104,7 +114,9 @@ impl Key {
     }
 
     /// The value that the option has where none is joined to it, if it needs none.
-    pub fn plain_value(self) -> Option<&'static str> {
+    pub fn plain_value(self) -> Option<&'static str>
+        ensures { option_map (λ it. it.now) result ≡ plain_text self }
+    {
         match self {
             Key::SourceMap => Some("linked"),
             Key::Analyze | Key::Watch => Some("true"),
@@ -113,7 +125,9 @@ impl Key {
     }
 
     /// What the option takes, in words.
-    pub fn values(self) -> &'static str {
+    pub fn values(self) -> &'static str
+        ensures { result.now ≡ values_text self }
+    {
         match self {
             Key::Outfile | Key::Metafile => "a file",
             Key::Outdir | Key::Root => "a folder",

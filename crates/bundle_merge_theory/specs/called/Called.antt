@@ -15,7 +15,9 @@ around_place head begins field = record { head = head; begins = begins; field = 
 -- the nodes around the body of the function, in this field of the body
 abbrev pub called_path : Bool → ℕ → List Around
 called_path is_async field =
-    around_place h.BlockStmt 6 field ∷ around_place (h.Function false is_async) 5 1 ∷ around_place h.FnExpr 4 1 ∷ around_place h.ParenExpr 3 0 ∷ around_place h.CallExpr 2 0 ∷ around_place h.ExprStmt 1 0 ∷ around_place h.Module 0 0 ∷ []
+    around_place h.BlockStmt 6 field ∷ around_place (h.Function false is_async) 5 1
+    ∷ around_place h.FnExpr 4 1 ∷ around_place h.ParenExpr 3 0 ∷ around_place h.CallExpr 2 0
+    ∷ around_place h.ExprStmt 1 0 ∷ around_place h.Module 0 0 ∷ []
 
 -- a node that begins 6 places later
 abbrev pub moved_around : Around → Around
@@ -55,7 +57,8 @@ call_start is_async = record { place = 7; path = called_path is_async 0 }
 
 -- a module and a call with the same statements: what follows them declares nothing, and some scope
 -- takes each declaration
-pub record AreTwins (reading : Reading) (is_async : Bool) (stmts after its : List Item) : Type 0 where
+pub record AreTwins
+    (reading : Reading) (is_async : Bool) (stmts after its : List Item) : Type 0 where
   pub statements : AreStatements zero stmts
   pub taken : Every IsTaken (declared reading Es (module_with stmts after))
   pub none_after : declared_from reading Es (fold past statements_start stmts) after ≡ []

@@ -26,7 +26,8 @@ called_denoted (Global x) = Global x
 
 -- a declaration in the body
 abbrev pub called_declared : Declared → Declared
-called_declared d = record { place = d.place + 6; name = d.name; by = d.by; scopes = moved_scopes d.scopes }
+called_declared d =
+    record { place = d.place + 6; name = d.name; by = d.by; scopes = moved_scopes d.scopes }
 
 -- whether a way is that of imports, of a nameless default or of a CommonJS module's parameters
 abbrev pub is_module_way : Way → Truth

@@ -31,8 +31,11 @@ load_function_front meta load helper which exports =
 abbrev pub function_declarator : (load helper which exports : Ident) → List Item → List Item
 function_declarator load helper which exports body =
     node 1 h.VarDeclarator (node 0 h.BindingIdent (h.Ident 0 load.0 load.1 Binding ∷ [])
-    ++ node 1 h.CallExpr (h.Ident 0 helper.0 helper.1 Reference ∷ node 1 (h.ExprOrSpread false) (node 1 h.FnExpr (node 1 (h.Function false false)
-    (node 0 h.Param (node 0 h.BindingIdent (h.Ident 0 which.0 which.1 Binding ∷ [])) ++ (node 0 h.Param (node 0 h.BindingIdent (h.Ident 0 exports.0 exports.1 Binding ∷ [])) ++ node 1 h.BlockStmt body))))))
+    ++ node 1 h.CallExpr (h.Ident 0 helper.0 helper.1 Reference
+    ∷ node 1 (h.ExprOrSpread false) (node 1 h.FnExpr (node 1 (h.Function false false)
+    (node 0 h.Param (node 0 h.BindingIdent (h.Ident 0 which.0 which.1 Binding ∷ []))
+    ++ (node 0 h.Param (node 0 h.BindingIdent (h.Ident 0 exports.0 exports.1 Binding ∷ []))
+    ++ node 1 h.BlockStmt body))))))
 
 -- the function
 abbrev pub load_function_items : ExportMetadata → (load helper which exports : Ident) → List Item →
@@ -44,7 +47,8 @@ load_function_items meta load helper which exports body =
 pub data IsOfForm : List Item → NotedItem → Type 0 where
   whole_form : {item : List Item} {told : ItemMeaning} → HasMarks item told →
       IsOfForm item (AsWhole told)
-  function_form : {c : ℕ} {insides : List (List Item)} {tolds : List ItemMeaning} (meta : ExportMetadata)
+  function_form :
+      {c : ℕ} {insides : List (List Item)} {tolds : List ItemMeaning} (meta : ExportMetadata)
       (load helper which exports : Ident) →
       AllZip HasMarks insides tolds →
       IsOfForm (load_function_items meta load helper which exports (flat insides))

@@ -32,7 +32,8 @@ recall call tree = with_idents tree (called_idents call tree)
 abbrev pub IsRightContext : List Occurrence → Occurrence → List ℕ → ℕ → Type 0
 IsRightContext all old sym ctxt =
     IsTrue
-    (cond (not (bytes_eq old.sym sym) && has_ident all sym old.ctxt) (is_unused_context all ctxt) (ctxt == old.ctxt))
+    (cond (not (bytes_eq old.sym sym) && has_ident all sym old.ctxt) (is_unused_context all ctxt)
+    (ctxt == old.ctxt))
 
 -- bindings with a keyword's symbol get `__` before it, and contexts change only where they must;
 -- contexts that are taken anew tell apart what they are taken for

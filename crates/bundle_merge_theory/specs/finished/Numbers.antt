@@ -19,7 +19,10 @@ number_at numbers (Global x) = 0
 abbrev pub later_of : Calling → List Item → Numbering → Numbering
 later_of call tree numbers scope name =
     unwrap_or
-    (option_map (number_at numbers) (find (λ d. same_denoted (recalled_denoted call (called_place call tree) d) (Bound scope name)) (denotations ByContext Es tree)))
+    (option_map (number_at numbers)
+    (find
+    (λ d. same_denoted (recalled_denoted call (called_place call tree) d) (Bound scope name))
+    (denotations ByContext Es tree)))
     0
 
 -- the symbol of what is denoted by the numbers of the merged tree

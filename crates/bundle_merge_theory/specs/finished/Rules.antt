@@ -10,7 +10,8 @@ use Rattle.bundle_merge_theory.specs.finished.Finished.{IsKeywordCalling}
 -- an identifier takes a context anew: with its new symbol its own context is that of another
 abbrev pub IsAnew : Calling → List Item → Occurrence → Type 0
 IsAnew call tree o =
-    (not (bytes_eq o.sym (call o.sym o.ctxt).0) && has_ident (occurrences tree) (call o.sym o.ctxt).0 o.ctxt) ≡ true
+    (not (bytes_eq o.sym (call o.sym o.ctxt).0)
+    && has_ident (occurrences tree) (call o.sym o.ctxt).0 o.ctxt) ≡ true
 
 -- the rule for keywords; and contexts that are taken anew differ
 pub record IsKeywordRule (call : Calling) (tree : List Item) : Type 0 where

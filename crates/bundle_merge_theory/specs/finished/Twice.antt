@@ -26,7 +26,9 @@ pub data Free : Around → Type 0 where
   in_object : Free InObject
 
 -- what becomes of a part by the first changes, and then by the second ones: that by both at once
-pub record Twice (around : Around) (before : List Item) (ones twos boths left later rest : List Change) : Type 0 where
+pub record Twice
+    (around : Around) (before : List Item)
+    (ones twos boths left later rest : List Change) : Type 0 where
   pub made : List Item
   pub whole : List Item
   pub first : Edits around ones before made left

@@ -24,4 +24,6 @@ named_at_once call tree numbers = cleared (with_idents tree (renamed_idents call
 -- the numbers are right by the symbols that bindings have without keywords
 abbrev pub AreRightNumbers : Calling → List Item → Numbering → Type 0
 AreRightNumbers call tree numbers =
-    (d : Declared) → IsIn (declared ByContext Es tree) d → named_right_by numbers call (declared ByContext Es tree) (occurrences tree) d ≡ true
+    (d : Declared) →
+    IsIn (declared ByContext Es tree) d →
+    named_right_by numbers call (declared ByContext Es tree) (occurrences tree) d ≡ true

@@ -32,11 +32,13 @@ is_inner_name all name =
     list_any (λ d. not (is_top (home_of all d)) && names_agree d.name name) all
 
 -- an occurrence of an item that is one of these
-pub data IsOccurrenceNoted (items : List (List Item)) (item : List Item) (o : Occurrence) : Type 0 where
+pub data IsOccurrenceNoted
+    (items : List (List Item)) (item : List Item) (o : Occurrence) : Type 0 where
   -- by itself it denotes a binding of an inner scope; if it is an `arguments` that nothing
   -- declares there, no item declares it at its top either
   inner : is_inner_denoted (own_denoted item o) ≡ true →
-      (is_global_written (own_denoted item o) ≡ false → is_item_top_name items (its_name o) ≡ false) →
+      (is_global_written (own_denoted item o) ≡ false → is_item_top_name items (its_name o) ≡ false)
+      →
       IsOccurrenceNoted items item o
   -- its name is declared at the top of some item, and by no inner scope of its own
   top_name : is_item_top_name items (its_name o) ≡ true →

@@ -22,8 +22,10 @@ load_item load helper m e made = front_items load helper m e ++ (made ++ back_it
 -- the nodes around the statements, in this field of the body
 abbrev pub body_path : ℕ → List Around
 body_path field =
-    around_spot h.BlockStmt 21 field ∷ around_spot (h.Function false false) 10 1 ∷ around_spot h.FnExpr 9 1
-    ∷ around_spot (h.ExprOrSpread false) 8 1 ∷ around_spot h.CallExpr 6 1 ∷ around_spot h.VarDeclarator 2 1
+    around_spot h.BlockStmt 21 field ∷ around_spot (h.Function false false) 10 1
+    ∷ around_spot h.FnExpr 9 1
+    ∷ around_spot (h.ExprOrSpread false) 8 1 ∷ around_spot h.CallExpr 6 1
+    ∷ around_spot h.VarDeclarator 2 1
     ∷ around_spot (h.VarDecl Var no_notes) 1 1 ∷ around_spot h.Module 0 0 ∷ []
 
 -- where the statements begin
@@ -80,6 +82,7 @@ parameter_name place pattern begins name =
       role = Binding;
       path = around_spot h.BindingIdent pattern 0 ∷ around_spot h.Param begins 0
           ∷ around_spot (h.Function false false) 10 0 ∷ around_spot h.FnExpr 9 1
-          ∷ around_spot (h.ExprOrSpread false) 8 1 ∷ around_spot h.CallExpr 6 1 ∷ around_spot h.VarDeclarator 2 1
+          ∷ around_spot (h.ExprOrSpread false) 8 1 ∷ around_spot h.CallExpr 6 1
+          ∷ around_spot h.VarDeclarator 2 1
           ∷ around_spot (h.VarDecl Var no_notes) 1 1 ∷ around_spot h.Module 0 0 ∷ [];
     }

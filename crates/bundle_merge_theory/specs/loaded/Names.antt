@@ -18,13 +18,15 @@ LabelTable = List (Ident × Label)
 
 -- an occurrence of an item stands for the label: a name of the top of the whole, or a binding of
 -- an inner scope of the item by itself
-pub data IsLabelled (items : List (List Item)) (table : LabelTable) (item : List Item) (o : Occurrence)
+pub data IsLabelled (items : List (List Item)) (table : LabelTable) (item : List Item)
+    (o : Occurrence)
     (l : Label) : Type 0 where
   labelled_top : is_item_top_name items (its_name o) ≡ true →
       is_inner_name (own_declared item) (its_name o) ≡ false → Contains table (ident_of o, l) →
       IsLabelled items table item o l
   labelled_inner : is_inner_denoted (own_denoted item o) ≡ true →
-      (is_global_written (own_denoted item o) ≡ false → is_item_top_name items (its_name o) ≡ false) →
+      (is_global_written (own_denoted item o) ≡ false → is_item_top_name items (its_name o) ≡ false)
+      →
       Contains table (ident_of o, l) → IsLabelled items table item o l
 
 -- what an occurrence of an item means, in a statement that begins at this place of the item by
@@ -32,7 +34,8 @@ pub data IsLabelled (items : List (List Item)) (table : LabelTable) (item : List
 pub data NameNoted (items : List (List Item)) (table : LabelTable) (item : List Item) (begins : ℕ)
     (inner : List Denoted) (o : Occurrence) : Meant → Type 0 where
   is_one_inside : {k : ℕ} → is_inner_denoted (own_denoted item o) ≡ true →
-      (is_global_written (own_denoted item o) ≡ false → is_item_top_name items (its_name o) ≡ false) →
+      (is_global_written (own_denoted item o) ≡ false → is_item_top_name items (its_name o) ≡ false)
+      →
       is_inside begins (own_denoted item o) ≡ true →
       position (same_denoted (own_denoted item o)) inner ≡ Some k →
       NameNoted items table item begins inner o (Inside k)

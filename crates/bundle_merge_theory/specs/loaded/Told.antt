@@ -13,7 +13,8 @@ use Rattle.bundle_merge_theory.specs.loaded.Names.{LabelTable, NamedAs}
 -- a name of the module, which becomes that name of the body: it is kept, and means this in the
 -- module; or it is the callee of a literal call of `require`, and becomes the name of a load
 -- function
-pub data ToldInFunction (table : LabelTable) (L : Ident → Type 0) (c : ℕ) (g : Numbering) (ds : List Declared)
+pub data ToldInFunction (table : LabelTable) (L : Ident → Type 0) (c : ℕ) (g : Numbering)
+    (ds : List Declared)
     (inner : List Denoted) (o u : Occurrence) : Meant → Type 0 where
   told_kept : {meant : Meant} → KeepsName g ds o u →
       NamedAs c inner (denoted_of BySymbol Cjs ds o) meant →

@@ -111,7 +111,8 @@ HasTurnedContexts g ds (begun {field = field} {head = head} own rest) s =
 HasTurnedContexts g ds (declares {field = field} {kind = kind} {meta = meta} rest) s =
     HasTurnedContexts g ds rest (past s (h.Open field (h.VarDecl kind meta)))
 HasTurnedContexts g ds (ended rest) s = HasTurnedContexts g ds rest (past s h.Close)
-HasTurnedContexts {L = L} g ds (named {field = field} {ctxt = ctxt} {its = its} {x = x} {role = role} is
+HasTurnedContexts {L = L} g ds
+    (named {field = field} {ctxt = ctxt} {its = its} {x = x} {role = role} is
     rest) s =
     FitsName L g ds (occurrence_here s field x ctxt role) (x, its)
     × HasTurnedContexts g ds rest (past s (h.Ident field x ctxt role))
@@ -130,7 +131,8 @@ HasTurnedContexts g ds (skipped {field = field} rest) s =
 
 -- occurrences of the module, and those of the body: a name is kept, or a reference gets another
 -- name
-pub data FollowsTurned (L : Ident → Type 0) (R : ℕ → ℕ → Type 0) (g : Numbering) (ds : List Declared) :
+pub data FollowsTurned (L : Ident → Type 0) (R : ℕ → ℕ → Type 0) (g : Numbering)
+    (ds : List Declared) :
     List Occurrence → List Occurrence → Type 0 where
   done : FollowsTurned L R g ds [] []
   kept : {o u : Occurrence} {os us : List Occurrence} → StandsBeside R o u → KeepsName g ds o u →

@@ -1,5 +1,5 @@
--- What is so of each item of a bundle by itself, and of the contexts of all: of this it follows that
--- they make a bundle.
+-- What is so of each item of a bundle by itself, and of the contexts of all: of this it follows
+-- that they make a bundle.
 use Rattle.std.specs.Prelude.{◌≡◌, ◌↔◌, ⊤, ℕ, ◌<◌, true, false, List, [], ◌∷◌, Option, Some, None, Contains, codes, find, fold, map, position, slice_get}
 use Rattle.std.specs.List.{AllZip}
 use Rattle.bundle_syntax.specs.declared.kind.ExportMetadata.{ExportMetadata}
@@ -120,7 +120,8 @@ pub data IsHolder (p : Program) (answers : ℕ → Option HookAnswer) : Holder �
       IsReached p m →
       answers m ≡ Some (Written own notes properties) →
       slice_get (occurrences (properties_tree properties)) i ≡ Some o →
-      denoted_as ByContext Es (properties_tree properties) i ≡ Some (Bound (Inner its begins) name) →
+      denoted_as ByContext Es (properties_tree properties) i
+      ≡ Some (Bound (Inner its begins) name) →
       o.ctxt ≡ ctxt →
       IsHolder p answers (WrittenIn m ctxt)
   added : {l : Label} (cause : Cause) →
@@ -192,7 +193,9 @@ pub data NameAlone (p : Program) (list : List ℕ) (context : BundleContexts)
       (o.sym ≡ codes "arguments" → find is_function (scopes_around Es o.path) ≡ None) →
       NameAlone p list context answers cause item begins inner o (Unbound o.sym)
 
-module _ (p : Program) (list : List ℕ) (context : BundleContexts) (answers : ℕ → Option HookAnswer) (cause : Cause) (item : List Item) where
+module _
+    (p : Program) (list : List ℕ) (context : BundleContexts) (answers : ℕ → Option HookAnswer)
+    (cause : Cause) (item : List Item) where
   -- a statement in an item, at this spot of it, by what is told of it
   abbrev pub StatementAlone : Spot → List Item → ItemMeaning → Type 0
   StatementAlone s part told =

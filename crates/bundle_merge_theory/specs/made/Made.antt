@@ -103,23 +103,32 @@ pub data IsMade (p : Program) (hooks : Hooks) (list : List ℕ) (context : Bundl
       item ≡ l.import_bare s →
       IsMade p hooks list context answers (ImportsNothing s) item
   helps : {item : List Item} →
-      item ≡ l.helper_function (ident_of_label p list context Helper) (codes "fn", context HelperParameter) (codes "module", context HelperVariable) →
+      item
+      ≡ l.helper_function (ident_of_label p list context Helper)
+      (codes "fn", context HelperParameter) (codes "module", context HelperVariable) →
       IsMade p hooks list context answers Helps item
   defines : {c : ℕ} {item : List Item} (bodies : List (List Item)) →
       AllZip (λ statement made. IsStatedAs p list context c Cjs statement made)
       (own_statements (tree_of p c)) bodies →
-      item ≡ l.load_function (ident_of_label p list context (Load c)) (ident_of_label p list context Helper) (codes "module", context (TopOf c)) (codes "exports", context (TopOf c)) (flat bodies) →
+      item
+      ≡ l.load_function (ident_of_label p list context (Load c))
+      (ident_of_label p list context Helper) (codes "module", context (TopOf c))
+      (codes "exports", context (TopOf c)) (flat bodies) →
       IsMade p hooks list context answers (Defines c) item
   loads : {m c : ℕ} {item : List Item} (whole : Bool) (names : List Text) →
       AreNames (λ x. IsMeant p (Of (CommonJs m c (Named x)))) names →
       (whole ≡ true → IsMeant p (Of (CommonJs m c Whole))) →
       (IsMeant p (Of (CommonJs m c Whole)) → whole ≡ true) →
-      item ≡ l.load_statement (ident_of_label p list context (Load c)) (if whole then Some (ident_of_label p list context (Of (CommonJs m c Whole))) else None) (named_idents p list context (λ x. CommonJs m c (Named x)) names) →
+      item
+      ≡ l.load_statement (ident_of_label p list context (Load c))
+      (if whole then Some (ident_of_label p list context (Of (CommonJs m c Whole))) else None)
+      (named_idents p list context (λ x. CommonJs m c (Named x)) names) →
       IsMade p hooks list context answers (Loads m c) item
   holds_meta : {m : ℕ} {item : List Item} (properties made : List Item) →
       answers m ≡ Some (Fresh properties) →
       IsAnsweredAs p hooks context m properties made →
-      item ≡ l.constant no_notes (ident_of_label p list context (Meta m)) (node 1 h.ObjectLit made) →
+      item
+      ≡ l.constant no_notes (ident_of_label p list context (Meta m)) (node 1 h.ObjectLit made) →
       IsMade p hooks list context answers (HoldsMeta m) item
   holds_written : {m : ℕ} {item : List Item} (its : IsMetaItem p hooks m item) →
       answers m ≡ Some (Written its.ctxt its.meta its.properties) →
@@ -127,7 +136,9 @@ pub data IsMade (p : Program) (hooks : Hooks) (list : List ℕ) (context : Bundl
       IsMade p hooks list context answers (HoldsMeta m) item
   holds_namespace : {d : ℕ} {item : List Item} (pairs : List NamedTarget) →
       AreLinked p d pairs →
-      item ≡ l.namespace_object no_notes (ident_of_label p list context (Of (Namespace d))) (linked_idents p list context pairs) →
+      item
+      ≡ l.namespace_object no_notes (ident_of_label p list context (Of (Namespace d)))
+      (linked_idents p list context pairs) →
       IsMade p hooks list context answers (HoldsNamespace d) item
   stars : {s : Text} {item : List Item} →
       item ≡ l.export_star s →

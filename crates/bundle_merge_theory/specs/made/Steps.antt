@@ -52,8 +52,11 @@ pub data IsStep (p : Program) (list : List ℕ) (context : BundleContexts) (m : 
   -- denotes
   keeps : ((n : ℕ) (t : Target) → IsTargetUsed p m o n t → ⊥) →
       ((c : ℕ) → IsCalled p m o c → ⊥) →
-      IsStepTo
-      (o.sym, context_of (numbers_in context m) (denoted_of BySymbol kind (declared BySymbol kind (tree_of p m)) o))
+      IsStepTo (
+        o.sym,
+        context_of (numbers_in context m)
+            (denoted_of BySymbol kind (declared BySymbol kind (tree_of p m)) o),
+      )
       w.Alone step →
       IsStep p list context m kind o step
   -- a use becomes the name of what it means, in place of the reads by which it means that
@@ -70,8 +73,11 @@ pub data IsStep (p : Program) (list : List ℕ) (context : BundleContexts) (m : 
 -- the step of an occurrence of what the hook answered for a module, as it stands alone
 abbrev pub IsStepAnswered : BundleContexts → ℕ → List Item → Occurrence → Step → Type 0
 IsStepAnswered context m properties o step =
-    IsStepTo
-    (o.sym, context_of (numbers_answered context m) (denoted_of BySymbol Es (declared BySymbol Es (properties_tree properties)) o))
+    IsStepTo (
+      o.sym,
+      context_of (numbers_answered context m)
+          (denoted_of BySymbol Es (declared BySymbol Es (properties_tree properties)) o),
+    )
     w.Alone step
 
 -- whether an occurrence stands in a top item

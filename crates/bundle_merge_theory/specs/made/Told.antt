@@ -42,7 +42,8 @@ kept_ident p context m kind o =
 
 -- what an occurrence means, where these are the bindings inside its statement, and the identifier
 -- that it becomes
-pub data IsNamedFor (p : Program) (list : List ℕ) (context : BundleContexts) (m : ℕ) (kind : ModuleKind)
+pub data IsNamedFor (p : Program) (list : List ℕ) (context : BundleContexts) (m : ℕ)
+    (kind : ModuleKind)
     (inner : List Denoted) (o : Occurrence) : Meant → Ident → Type 0 where
   inside : {k : ℕ} →
       position (same_denoted (denoted_in_module p m kind o)) inner ≡ Some k →

@@ -237,8 +237,8 @@ pub record IsModuleDecided (p : Program) (d : Decided) (m : ℕ) : Type 0 where
   pub statements : d.statements m ≡ length (own_statements (tree_of p m))
   pub object : IsTrue (d.is_object_meant m) ↔ IsMeant p (Of (Namespace m))
 
--- a block is of one module, and if the standard's order is not asked for, of one that does not request
--- itself; or else it is sorted, and that order is not asked for
+-- a block is of one module, and if the standard's order is not asked for, of one that does not
+-- request itself; or else it is sorted, and that order is not asked for
 pub record IsBlockDecided (p : Program) (block : DecidedBlock) : Type 0 where
   pub lone : block.is_sorted ≡ false →
       (m : ℕ) × (block.modules ≡ m ∷ []) ×

@@ -47,7 +47,8 @@ table_of _ _ = []
 
 -- what is told of an item that is right by itself
 pub record IsAloneAs (p : Program) (hooks : Hooks) (list : List ℕ) (context : BundleContexts)
-    (answers : ℕ → Option HookAnswer) (cause : Cause) (item : List Item) (noted : NotedItem) : Type 0
+    (answers : ℕ → Option HookAnswer) (cause : Cause) (item : List Item) (noted : NotedItem) : Type
+    0
   where
     pub alone : IsItemAlone p hooks list context answers cause item
     pub its : alone.noted ≡ noted

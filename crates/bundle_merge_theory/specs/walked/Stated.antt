@@ -65,7 +65,8 @@ pub record SameStated (work : Work) (meta : Option Meant) (notes : List Note) (n
   pub front : List (Ident × Meant)
   pub front_is : (front ≡ []) ⊎ ((front ≡ (name, default) ∷ []) × (declares_default item ≡ true))
   pub source : MarkedStated meta default notes item marks []
-  pub result : Marked None Anywhere (notes_alone (map (λ pair. pair.1) front ++ map meant_in entries))
+  pub result :
+      Marked None Anywhere (notes_alone (map (λ pair. pair.1) front ++ map meant_in entries))
       made marks []
   pub names : idents_among made ≡ map (λ pair. pair.0) front ++ map meant_ident entries
   pub steps_are : work.steps ≡ steps_in entries

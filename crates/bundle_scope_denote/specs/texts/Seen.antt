@@ -1,4 +1,5 @@
--- What a contract sees of a set and a map: what it sees of those of `indexmap`, whose words and lemmas serve here too.
+-- What a contract sees of a set and a map: what it sees of those of `indexmap`, whose words and
+-- lemmas serve here too.
 use Rattle.std.specs.Prelude.{ℕ, List, [], ◌∷◌, map, Option, Some, None}
 use Rattle.std.specs.declared.alloc.Global.{Global}
 use Rattle.std.specs.declared.vec.Vec.{Vec}

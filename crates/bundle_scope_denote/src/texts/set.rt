@@ -144,7 +144,8 @@ fn put<K: Ord + Copy + Drop>(
 ) -> Result<Option<usize>, AllocError>
     ensures own { IfOk result (λ own. own ≡ get K.cmp places.old key) }
     ensures places { IfOk result (λ own. IsKeyPut K.cmp places.old places.new key place own) }
-    ensures err { OnErr result ((other : K) → get K.cmp places.new other ≡ get K.cmp places.old other) }
+    ensures err { OnErr result
+        ((other : K) → get K.cmp places.new other ≡ get K.cmp places.old other) }
 {
     let own = places.insert(key, place)?;
     if let Some(own) = own {

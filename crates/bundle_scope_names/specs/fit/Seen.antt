@@ -1,4 +1,5 @@
--- What is so of each element of a list, by the nodes around it and the sort as which it stands there.
+-- What is so of each element of a list, by the nodes around it and the sort as which it stands
+-- there.
 use Rattle.std.specs.Prelude.{◌≡◌, ℕ, ◌&&◌, Bool, true, List, [], ◌∷◌}
 use Rattle.bundle_syntax.specs.Item as h
 use Rattle.bundle_syntax.specs.Item.{Item, Head}
@@ -16,16 +17,24 @@ each_slot test (slot number count sort ∷ more) = test number sort && each_slot
 
 -- an element stands as a sort that takes it and that passes the test with the nodes around it
 abbrev pub Sees : (NodeSort → List Around → Bool) → Item → List Around → Type 0
-Sees test (h.Open field head) path = (sort : NodeSort) × (takes_head head sort ≡ true) × (test sort path ≡ true)
-Sees test (h.Ident field x ctxt role) path = (sort : NodeSort) × (takes_name role sort ≡ true) × (test sort path ≡ true)
+Sees test (h.Open field head) path =
+    (sort : NodeSort) × (takes_head head sort ≡ true) × (test sort path ≡ true)
+Sees test (h.Ident field x ctxt role) path =
+    (sort : NodeSort) × (takes_name role sort ≡ true) × (test sort path ≡ true)
 Sees test (h.Hole field) path = Unit {0}
 Sees test h.Close path = Unit {0}
 
 -- each does, from a spot on
 abbrev pub AreSeen : (NodeSort → List Around → Bool) → Spot → List Item → Type 0
 AreSeen test spot [] = Unit {0}
-AreSeen test spot (item ∷ rest) = Sees test item (path_to spot.path item) × AreSeen test (past spot item) rest
+AreSeen test spot (item ∷ rest) =
+    Sees test item (path_to spot.path item) × AreSeen test (past spot item) rest
 
 -- where a sort passes the test, the fields of each node that it takes do
 abbrev pub SortSteps : (NodeSort → List Around → Bool) → Type 0
-SortSteps test = (head : Head) (begins : ℕ) (sort : NodeSort) (path : List Around) → takes_head head sort ≡ true → test sort path ≡ true → each_slot (λ number inner. test inner (around_node head begins number ∷ path)) (slots head (names_of_sort sort)) ≡ true
+SortSteps test =
+    (head : Head) (begins : ℕ) (sort : NodeSort) (path : List Around) →
+    takes_head head sort ≡ true →
+    test sort path ≡ true →
+    each_slot (λ number inner. test inner (around_node head begins number ∷ path))
+    (slots head (names_of_sort sort)) ≡ true

@@ -1,5 +1,5 @@
--- What may stand where in the list of a tree (ECMA-262, 12 to 16): sorts of nodes and names, and for each node the sorts
--- of its fields, in their order, with how many nodes each field holds.
+-- What may stand where in the list of a tree (ECMA-262, 12 to 16): sorts of nodes and names, and
+-- for each node the sorts of its fields, in their order, with how many nodes each field holds.
 use Rattle.std.specs.Prelude.{ℕ, Bool, true, false, List, [], ◌∷◌}
 use Rattle.bundle_syntax.specs.declared.piece.Role.{Role}
 use Rattle.bundle_syntax.specs.declared.piece.Role.TheVariants as r
@@ -54,7 +54,8 @@ pub data NodeSort : Type 0 where
   AClass : NodeSort
   AMember : NodeSort
 
--- how many nodes stand in a field: one; one or none; each number; each number, with places that hold nothing
+-- how many nodes stand in a field: one; one or none; each number; each number, with places that
+-- hold nothing
 pub data NodeCount : Type 0 where
   One : NodeCount
   Optional : NodeCount
@@ -467,9 +468,11 @@ slots h.TryStmt names = slot 0 One ABlock ∷ slot 1 Optional AHandler ∷ slot 
 slots h.CatchClause names = slot 0 Optional (APattern r.Binding) ∷ slot 1 One ABlock ∷ []
 slots h.WhileStmt names = slot 0 One AnExpr ∷ slot 1 One AStmt ∷ []
 slots h.DoWhileStmt names = slot 0 One AStmt ∷ slot 1 One AnExpr ∷ []
-slots h.ForStmt names = slot 0 Optional AnInit ∷ slot 1 Optional AnExpr ∷ slot 2 Optional AnExpr ∷ slot 3 One AStmt ∷ []
+slots h.ForStmt names =
+    slot 0 Optional AnInit ∷ slot 1 Optional AnExpr ∷ slot 2 Optional AnExpr ∷ slot 3 One AStmt ∷ []
 slots h.ForInStmt names = slot 0 One ALoopHead ∷ slot 1 One AnExpr ∷ slot 2 One AStmt ∷ []
-slots (h.ForOfStmt is_await) names = slot 1 One ALoopHead ∷ slot 2 One AnExpr ∷ slot 3 One AStmt ∷ []
+slots (h.ForOfStmt is_await) names =
+    slot 1 One ALoopHead ∷ slot 2 One AnExpr ∷ slot 3 One AStmt ∷ []
 slots h.ExprStmt names = slot 0 One AnExpr ∷ []
 -- declarations (ECMA-262, 14.3, 15.2 and 15.7)
 slots h.ClassDecl names = slot 0 One ALocal ∷ slot 1 One AClass ∷ []
@@ -505,7 +508,8 @@ slots (h.ExprOrSpread spread) names = slot 1 One AnExpr ∷ []
 slots h.SpreadElement names = slot 0 One AnExpr ∷ []
 slots h.KeyValueProp names = slot 0 One AKey ∷ slot 1 One AnExpr ∷ []
 slots h.GetterProp names = slot 0 One AKey ∷ slot 1 One ABlock ∷ []
-slots h.SetterProp names = slot 0 One AKey ∷ slot 1 One (APattern r.Binding) ∷ slot 2 One ABlock ∷ []
+slots h.SetterProp names =
+    slot 0 One AKey ∷ slot 1 One (APattern r.Binding) ∷ slot 2 One ABlock ∷ []
 slots h.MethodProp names = slot 0 One AKey ∷ slot 1 One AFunction ∷ []
 slots h.ComputedPropName names = slot 0 One AnExpr ∷ []
 -- patterns (ECMA-262, 14.3.3)

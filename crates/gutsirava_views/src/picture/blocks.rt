@@ -21,49 +21,67 @@ pub(crate) fn blocks_of(
     count: usize,
     links: &[DrawnLink],
 ) -> Result<NodeBlocks, AllocError> {
-    let onward = lists_of(alloc, count, links, DrawnLink::itself)?;
-    let backward = lists_of(alloc, count, links, DrawnLink::turned)?;
-    let mut walk = DepthFirst::new(alloc, onward.as_slice(), count)?;
-    for node in (0..count).rev() {
-        walk.run_from(node)?;
-    }
-    let mut blocks = NodeBlocks {
-        of_node: vec![in alloc; NOWHERE; count]?,
-        members: Vec::new(alloc),
-    };
-    for node in walk.left.iter().rev() {
+    let order = left_order(alloc, count, links)?;
+    let backward = lists_of(alloc, count, links, LinkSide::Backward)?;
+    let mut blocks = NodeBlocks::new(alloc, count)?;
+    for node in order.iter().rev() {
         blocks.add(alloc, backward.as_slice(), *node)?;
     }
     Ok(blocks)
 }
 
-impl DrawnLink {
-    fn itself(self) -> (usize, usize) {
-        (self.from, self.to)
+// All boxes, in the order in which a walk leaves them.
+fn left_order(alloc: Global, count: usize, links: &[DrawnLink]) -> Result<Vec<usize>, AllocError> {
+    let onward = lists_of(alloc, count, links, LinkSide::Onward)?;
+    let mut walk = DepthFirst::new(alloc, onward.as_slice(), count)?;
+    for node in (0..count).rev() {
+        walk.run_from(node)?;
     }
+    let DepthFirst { left, .. } = walk;
+    Ok(left)
+}
 
-    fn turned(self) -> (usize, usize) {
-        (self.to, self.from)
+// Which way links lead.
+#[derive(Clone, Copy)]
+enum LinkSide {
+    Onward,
+    Backward,
+}
+
+impl DrawnLink {
+    fn ends(self, side: LinkSide) -> (usize, usize) {
+        match side {
+            LinkSide::Onward => (self.from, self.to),
+            LinkSide::Backward => (self.to, self.from),
+        }
     }
 }
 
-/// For each box those that links lead to, the last first.
-fn lists_of<F: Fn(DrawnLink) -> (usize, usize)>(
+// For each box those that links lead to, the last first.
+fn lists_of(
     alloc: Global,
     count: usize,
     links: &[DrawnLink],
-    ends_of: F,
-) -> Result<Vec<Vec<usize>>, AllocError>
-    requires { F.IsAlwaysCallable ends_of }
-{
+    side: LinkSide,
+) -> Result<Vec<Vec<usize>>, AllocError> {
     let mut lists = empty_lists(alloc, count)?;
     for link in links.iter().rev() {
-        let (from, to) = ends_of(*link);
-        if let Some(list) = lists.get_mut(from) {
-            list.push(to)?;
-        }
+        let (from, to) = link.ends(side);
+        push_at(lists.as_mut_slice(), from, to)?;
     }
     Ok(lists)
+}
+
+/// Appends to the list of this number, if there is one.
+pub(crate) fn push_at(
+    lists: &mut [Vec<usize>],
+    at: usize,
+    number: usize,
+) -> Result<(), AllocError> {
+    if let Some(list) = lists.get_mut(at) {
+        list.push(number)?;
+    }
+    Ok(())
 }
 
 /// So many lists with nothing in them.
@@ -140,6 +158,13 @@ fn next_of(lists: &[Vec<usize>], node: usize, at: usize) -> Option<usize> {
 }
 
 impl NodeBlocks {
+    fn new(alloc: Global, count: usize) -> Result<NodeBlocks, AllocError> {
+        Ok(NodeBlocks {
+            of_node: vec![in alloc; NOWHERE; count]?,
+            members: Vec::new(alloc),
+        })
+    }
+
     // Adds the block of a box that is in none: all that lead to it and are in none.
     fn add(
         &mut self,
@@ -147,33 +172,48 @@ impl NodeBlocks {
         backward: &[Vec<usize>],
         node: usize,
     ) -> Result<(), AllocError> {
-        let number = self.members.len();
-        let mut members = Vec::new(alloc);
-        self.take(node, number, &mut members)?;
-        for at in 0..usize::MAX {
-            let Some(member) = members.get(at).copied() else {
-                break;
-            };
-            if let Some(list) = backward.get(member) {
-                for before in list {
-                    self.take(*before, number, &mut members)?;
-                }
-            }
-        }
+        let members = self.block_from(alloc, backward, node)?;
         if !members.is_empty() {
-            members.sort()?;
             self.members.push(members)?;
         }
         Ok(())
     }
 
-    // Takes a box into a block, if it is in none.
-    fn take(
+    // The boxes of the next block, in their order.
+    fn block_from(
         &mut self,
+        alloc: Global,
+        backward: &[Vec<usize>],
         node: usize,
-        number: usize,
+    ) -> Result<Vec<usize>, AllocError> {
+        let mut members = Vec::new(alloc);
+        self.take(node, &mut members)?;
+        for at in 0..usize::MAX {
+            let Some(member) = members.get(at).copied() else {
+                break;
+            };
+            self.take_all(backward.get(member), &mut members)?;
+        }
+        members.sort()?;
+        Ok(members)
+    }
+
+    fn take_all(
+        &mut self,
+        nodes: Option<&Vec<usize>>,
         members: &mut Vec<usize>,
     ) -> Result<(), AllocError> {
+        if let Some(nodes) = nodes {
+            for node in nodes {
+                self.take(*node, members)?;
+            }
+        }
+        Ok(())
+    }
+
+    // Takes a box into the next block, if it is in none.
+    fn take(&mut self, node: usize, members: &mut Vec<usize>) -> Result<(), AllocError> {
+        let number = self.members.len();
         if let Some(block) = self.of_node.get_mut(node)
             && *block == NOWHERE
         {

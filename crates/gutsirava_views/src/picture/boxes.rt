@@ -1,7 +1,7 @@
 //! The boxes of a picture.
 
-ghost use Rattle.std.specs.Prelude.{OnOk, string_bytes};
-ghost use Rattle.gutsirava_views.specs.Boxes.{AddsBox, Grows};
+ghost use Rattle.std.specs.Prelude.{◌≡◌, ◌++◌, OnOk, string_bytes};
+ghost use Rattle.gutsirava_views.specs.Boxes.{AddsBox, Grows, tip_of, title_text};
 
 use crate::picture::nodes::{BoxKind, COLOURS, DrawnBox};
 use crate::picture::points::BOX_HEIGHT;
@@ -56,16 +56,32 @@ pub(crate) fn draw_box(
     ensures { OnOk result (AddsBox node.now
         (string_bytes sheet.old.text) (string_bytes sheet.new.text)) }
 {
-    let alloc = sheet.alloc;
     sheet.push("<g>")?;
-    let tip = format!(in alloc; "{}{} {}", node.folder, node.name, node.note)?;
-    sheet.tip(tip.as_str())?;
+    push_tip(sheet, node)?;
+    draw_inside(sheet, node, frame)?;
+    sheet.push("</g>\n")
+}
+
+// What is shown of a box where a pointer rests on it.
+fn push_tip(sheet: &mut SvgSheet, node: &DrawnBox) -> Result<(), AllocError>
+    ensures { OnOk result (string_bytes sheet.new.text
+        ≡ string_bytes sheet.old.text ++ title_text (tip_of node.now)) }
+{
+    let tip = format!(in sheet.alloc; "{}{} {}", node.folder, node.name, node.note)?;
+    sheet.tip(tip.as_str())
+}
+
+// Draws a box, the tip of the lines that end at it, and its label.
+#[tactic(auto, using(std::proofs::lemmas::Grind::common_steps, crate::proofs::BoxLemmas::grows_by, crate::proofs::BoxLemmas::grows_again, crate::proofs::BoxLemmas::grows_same))]
+fn draw_inside(sheet: &mut SvgSheet, node: &DrawnBox, frame: BoxFrame) -> Result<(), AllocError>
+    ensures { OnOk result (Grows
+        (string_bytes sheet.old.text) (string_bytes sheet.new.text)) }
+{
     draw_outline(sheet, node, frame)?;
     if node.is_asked {
         draw_tip(sheet, frame)?;
     }
-    draw_label(sheet, node, frame)?;
-    sheet.push("</g>\n")
+    draw_label(sheet, node, frame)
 }
 
 // Draws the name of a box, and below it where it lies and how large it is.
@@ -74,18 +90,34 @@ fn draw_label(sheet: &mut SvgSheet, node: &DrawnBox, frame: BoxFrame) -> Result<
     ensures { OnOk result (Grows
         (string_bytes sheet.old.text) (string_bytes sheet.new.text)) }
 {
-    let alloc = sheet.alloc;
-    let name = cut(alloc, node.name.as_str(), NAME_MOST)?;
     let left = frame.left.saturating_add(12);
     if node.note.is_empty() {
-        let base = frame.middle().saturating_add(4);
-        return sheet.label("m", SheetSpot { left, top: base }, name.as_str());
+        let at = SheetSpot {
+            left,
+            top: frame.middle().saturating_add(4),
+        };
+        return draw_name(sheet, node, at);
     }
-    let base = frame.top.saturating_add(15);
-    sheet.label("m", SheetSpot { left, top: base }, name.as_str())?;
-    let note = note_of(alloc, node)?;
-    let low = frame.top.saturating_add(27);
-    sheet.label("q", SheetSpot { left, top: low }, note.as_str())
+    let at = SheetSpot {
+        left,
+        top: frame.top.saturating_add(15),
+    };
+    draw_name(sheet, node, at)?;
+    let note = note_of(sheet.alloc, node)?;
+    let low = SheetSpot {
+        left,
+        top: frame.top.saturating_add(27),
+    };
+    sheet.label("q", low, note.as_str())
+}
+
+#[tactic(auto, using(std::proofs::lemmas::Grind::common_steps, crate::proofs::BoxLemmas::grows_by, crate::proofs::BoxLemmas::grows_again, crate::proofs::BoxLemmas::grows_same))]
+fn draw_name(sheet: &mut SvgSheet, node: &DrawnBox, at: SheetSpot) -> Result<(), AllocError>
+    ensures { OnOk result (Grows
+        (string_bytes sheet.old.text) (string_bytes sheet.new.text)) }
+{
+    let name = cut(sheet.alloc, node.name.as_str(), NAME_MOST)?;
+    sheet.label("m", at, name.as_str())
 }
 
 // Draws the tip of the lines that end at a box.
@@ -96,8 +128,7 @@ fn draw_tip(sheet: &mut SvgSheet, frame: BoxFrame) -> Result<(), AllocError>
 {
     let left = frame.left.saturating_sub(6);
     let top = frame.middle().saturating_sub(3);
-    let way = format!(in sheet.alloc; "M{left} {top}l6 3l-6 3z")?;
-    sheet.path("a", way.as_str())
+    sheet.path("a", &[("M", left), (" ", top)], "l6 3l-6 3z")
 }
 
 #[tactic(auto, using(std::proofs::lemmas::Grind::common_steps, crate::proofs::BoxLemmas::grows_by, crate::proofs::BoxLemmas::grows_again, crate::proofs::BoxLemmas::grows_same))]
@@ -105,7 +136,6 @@ fn draw_outline(sheet: &mut SvgSheet, node: &DrawnBox, frame: BoxFrame) -> Resul
     ensures { OnOk result (Grows
         (string_bytes sheet.old.text) (string_bytes sheet.new.text)) }
 {
-    let alloc = sheet.alloc;
     match node.kind {
         BoxKind::External => return sheet.rect("z", frame, BOX_HEIGHT / 2),
         BoxKind::Folder => {
@@ -120,14 +150,23 @@ fn draw_outline(sheet: &mut SvgSheet, node: &DrawnBox, frame: BoxFrame) -> Resul
     }
     let class = if node.is_entry { "b e" } else { "b" };
     sheet.rect(class, frame, 4)?;
-    let (left, top, height) = (frame.left, frame.top, frame.height);
-    let fill = tint(node.colour);
-    let stripe = format!(in alloc;
-        "<path fill=\"{fill}\" d=\"M{} {top}h-1a4 4 0 0 0 -4 4v{}a4 4 0 0 0 4 4h1z\"/>",
-        left.saturating_add(5),
-        height.saturating_sub(8)
-    )?;
-    sheet.push(stripe.as_str())
+    draw_stripe(sheet, tint(node.colour), frame)
+}
+
+// Draws the stripe of this colour at the left of a box.
+#[tactic(auto, using(std::proofs::lemmas::Grind::common_steps, crate::proofs::BoxLemmas::grows_by, crate::proofs::BoxLemmas::grows_again, crate::proofs::BoxLemmas::grows_same))]
+fn draw_stripe(sheet: &mut SvgSheet, fill: &str, frame: BoxFrame) -> Result<(), AllocError>
+    ensures { OnOk result (Grows
+        (string_bytes sheet.old.text) (string_bytes sheet.new.text)) }
+{
+    sheet.push("<path fill=\"")?;
+    sheet.push(fill)?;
+    sheet.put(&[
+        ("\" d=\"M", frame.left.saturating_add(5)),
+        (" ", frame.top),
+        ("h-1a4 4 0 0 0 -4 4v", frame.height.saturating_sub(8)),
+    ])?;
+    sheet.push("a4 4 0 0 0 4 4h1z\"/>")
 }
 
 // What stands below the name of a box: where it lies, and how large it is. A folder that is too long loses its front.

@@ -1,11 +1,12 @@
 //! A picture of what stands in columns.
 
-ghost use Rattle.std.specs.Prelude.{OnOk, string_bytes};
-ghost use Rattle.gutsirava_views.specs.Boxes.{AddsBoxes};
+ghost use Rattle.std.specs.Prelude.{◌≡◌, IfOk, OnOk, string_bytes};
+ghost use Rattle.gutsirava_views.specs.Boxes.{AddsBoxes, Grows};
+ghost use Rattle.gutsirava_views.specs.Lines.{AddsLine, AddsLines, IsDrawn, Leaves, Meets, height_of, left_of, right_of, width_of};
 
 use crate::picture::blocks::NodeBlocks;
 use crate::picture::boxes::{box_width, draw_box, text_length, tint};
-use crate::picture::nodes::{DrawnGraph, DrawnLink};
+use crate::picture::nodes::{DrawnBox, DrawnGraph, DrawnLink};
 use crate::picture::points::{
     BOX_HEIGHT, ColumnPlan, MOST_MEMBERS, PointLink, grid_columns, grid_rows, row_middle,
 };
@@ -42,30 +43,41 @@ const FRAME_LEAST: usize = 176;
 /// How far the columns of a frame stand apart.
 const GRID_GAP: usize = 10;
 
-/// Draws columns.
+/// Draws columns: first what is behind the lines, then each line between the points that it joins, then each box.
 pub(crate) fn draw(
     alloc: Global,
     graph: &DrawnGraph,
     blocks: &NodeBlocks,
     plan: &ColumnPlan,
-) -> Result<String, AllocError> {
+) -> Result<String, AllocError>
+    ensures { IfOk result (λ text. IsDrawn graph.now plan.now (string_bytes text)) }
+{
     let columns = Columns::of(alloc, graph, blocks, plan)?;
-    let mut board = DrawingBoard {
-        graph,
-        blocks,
-        plan,
-        columns,
-        crossed: vec![in alloc; false; plan.points.len()]?,
-        sheet: SvgSheet::new(alloc),
-    };
-    board.begin()?;
-    board.draw_cycles()?;
-    board.draw_lines()?;
-    board.draw_boxes()?;
-    board.draw_legend()?;
-    board.sheet.push("</svg>\n")?;
-    let DrawingBoard { sheet, .. } = board;
-    Ok(sheet.text)
+    draw_all(
+        alloc,
+        DrawingBoard {
+            graph,
+            blocks,
+            plan,
+            columns: &columns,
+        },
+    )
+}
+
+fn draw_all(alloc: Global, board: DrawingBoard) -> Result<String, AllocError>
+    ensures { IfOk result (λ text.
+        IsDrawn board.entry.graph.now board.entry.plan.now (string_bytes text)) }
+{
+    let mut legend = SvgSheet::new(alloc);
+    board.draw_legend(&mut legend)?;
+    let mut sheet = SvgSheet::new(alloc);
+    board.draw_ground(&mut sheet)?;
+    board.draw_lines(&mut sheet)?;
+    draw_boxes(&mut sheet, board)?;
+    sheet.push(legend.text.as_str())?;
+    sheet.push("</svg>\n")?;
+    let SvgSheet { text, .. } = sheet;
+    Ok(text)
 }
 
 // Where each column begins, and how wide it is.
@@ -110,15 +122,21 @@ impl Columns {
         Ok(columns)
     }
 
-    fn left(&self, layer: usize) -> usize {
+    fn left(&self, layer: usize) -> usize
+        ensures { result ≡ left_of self.now layer }
+    {
         self.lefts.get(layer).copied().unwrap_or(MARGIN)
     }
 
-    fn width(&self, layer: usize) -> usize {
+    fn width(&self, layer: usize) -> usize
+        ensures { result ≡ width_of self.now layer }
+    {
         self.widths.get(layer).copied().unwrap_or(0)
     }
 
-    fn right(&self, layer: usize) -> usize {
+    fn right(&self, layer: usize) -> usize
+        ensures { result ≡ right_of self.now layer }
+    {
         self.left(layer).saturating_add(self.width(layer))
     }
 }
@@ -165,129 +183,117 @@ fn gap_before(plan: &ColumnPlan, layer: usize) -> usize {
     lines.min(70).saturating_add(48)
 }
 
-// A picture while it is drawn.
-#[derive(Drop)]
+// What is drawn.
+#[derive(Clone, Copy)]
 struct DrawingBoard<'g> {
     graph: &'g DrawnGraph,
     blocks: &'g NodeBlocks,
     plan: &'g ColumnPlan,
-    columns: Columns,
-    // The places where a line is drawn through a column.
-    crossed: Vec<bool>,
-    sheet: SvgSheet,
+    columns: &'g Columns,
 }
 
 impl DrawingBoard<'_> {
+    // Draws what is behind lines and boxes.
+    fn draw_ground(self, sheet: &mut SvgSheet) -> Result<(), AllocError> {
+        self.begin(sheet)?;
+        self.draw_cycles(sheet)
+    }
+
     // Begins the picture: its size, its style and its title.
-    fn begin(&mut self) -> Result<(), AllocError> {
-        let alloc = self.sheet.alloc;
-        let width = self.columns.right.saturating_add(MARGIN);
-        let height = self.columns.bottom.saturating_add(90);
-        let head = format!(in alloc;
-            "<svg xmlns=\"http://www.w3.org/2000/svg\" viewBox=\"0 0 {width} {height}\" width=\"{width}\" height=\"{height}\">\n<style>"
-        )?;
-        self.sheet.push(head.as_str())?;
-        self.sheet.push(STYLE)?;
-        self.sheet.push("</style>\n")?;
+    fn begin(self, sheet: &mut SvgSheet) -> Result<(), AllocError> {
         let whole = BoxFrame {
             left: 0,
             top: 0,
-            width,
-            height,
+            width: self.columns.right.saturating_add(MARGIN),
+            height: self.columns.bottom.saturating_add(90),
         };
-        self.sheet.rect("p", whole, 0)?;
-        let graph = self.graph;
-        self.sheet
-            .label("t", spot(MARGIN, 36), graph.title.as_str())?;
-        let cycles = self.cycles();
-        let subtitle = &graph.subtitle;
-        let more = match cycles {
-            0 => format!(in alloc; "{subtitle}")?,
-            1 => format!(in alloc; "{subtitle} \u{b7} 1 cycle")?,
-            _ => format!(in alloc; "{subtitle} \u{b7} {cycles} cycles")?,
-        };
-        self.sheet.label("u", spot(MARGIN, 56), more.as_str())?;
-        self.sheet.push("\n")
+        begin_svg(sheet, whole)?;
+        sheet.label("t", spot(MARGIN, 36), self.graph.title.as_str())?;
+        let subtitle = subtitle_of(sheet.alloc, self.graph.subtitle.as_str(), self.cycles())?;
+        sheet.label("u", spot(MARGIN, 56), subtitle.as_str())?;
+        sheet.push("\n")
     }
 
-    fn cycles(&self) -> usize {
-        self.blocks
-            .members
-            .iter()
-            .filter(|members| members.len() > 1)
-            .count()
+    fn cycles(self) -> usize {
+        let mut cycles: usize = 0;
+        for members in &self.blocks.members {
+            if members.len() > 1 {
+                cycles = cycles.saturating_add(1);
+            }
+        }
+        cycles
     }
 
     // Draws the lines: those that run together in one group.
-    fn draw_lines(&mut self) -> Result<(), AllocError> {
-        let alloc = self.sheet.alloc;
-        let plan = self.plan;
-        let mut order = Vec::new(alloc);
-        for (number, link) in plan.links.iter().enumerate() {
-            order.push((link.trunk, number))?;
-        }
-        order.sort()?;
+    fn draw_lines(self, sheet: &mut SvgSheet) -> Result<(), AllocError>
+        ensures { OnOk result (AddsLines self.entry.plan.now self.entry.columns.now
+            self.entry.plan.now.links.items
+            (string_bytes sheet.old.text) (string_bytes sheet.new.text)) }
+    {
+        let mut crossed = vec![in sheet.alloc; false; self.plan.points.len()]?;
+        self.draw_each(sheet, crossed.as_mut_slice())
+    }
+
+    // Draws lines in their order; some places where others pass a column were crossed already.
+    #[tactic(auto, using(std::proofs::lemmas::Grind::common_steps, crate::proofs::BoxLemmas::no_lines, crate::proofs::BoxLemmas::lines_step, crate::proofs::BoxLemmas::lines_all))]
+    fn draw_each(self, sheet: &mut SvgSheet, crossed: &mut [bool]) -> Result<(), AllocError>
+        ensures { OnOk result (AddsLines self.entry.plan.now self.entry.columns.now
+            self.entry.plan.now.links.items
+            (string_bytes sheet.old.text) (string_bytes sheet.new.text)) }
+    {
         let mut last = None;
-        for (trunk, number) in &order {
-            if last != Some(*trunk) {
-                self.begin_trunk(*trunk, last.is_some())?;
-                last = Some(*trunk);
-            }
-            if let Some(link) = plan.links.get(*number) {
-                self.draw_line(link)?;
-            }
+        for link in &self.plan.links {
+            turn_to(sheet, self.graph, link.trunk, last)?;
+            last = Some(link.trunk);
+            let was_crossed = self.was_crossed(crossed, link.to);
+            self.draw_line(sheet, link, was_crossed)?;
         }
-        if last.is_some() {
-            self.sheet.push("</g>\n")?;
-        }
-        Ok(())
+        end_trunk(sheet, last)
     }
 
-    fn begin_trunk(&mut self, trunk: usize, is_open: bool) -> Result<(), AllocError> {
-        if is_open {
-            self.sheet.push("</g>\n")?;
-        }
-        let graph = self.graph;
-        let colour = graph.nodes.get(trunk).map_or(9, |node| node.colour);
-        let stroke = tint(colour);
-        let group = format!(in self.sheet.alloc; "<g stroke=\"{stroke}\">")?;
-        self.sheet.push(group.as_str())?;
-        if let Some(node) = graph.nodes.get(trunk) {
-            let tip = format!(in self.sheet.alloc; "{}{}", node.folder, node.name)?;
-            self.sheet.tip(tip.as_str())?;
-        }
-        Ok(())
-    }
-
-    fn draw_line(&mut self, link: &PointLink) -> Result<(), AllocError> {
+    // Draws a line; not through its last column where another one was drawn there.
+    fn draw_line(
+        self,
+        sheet: &mut SvgSheet,
+        link: &PointLink,
+        was_crossed: bool,
+    ) -> Result<(), AllocError>
+        ensures { OnOk result (AddsLine self.entry.plan.now self.entry.columns.now link.now
+            (string_bytes sheet.old.text) (string_bytes sheet.new.text)) }
+    {
         let begin = self.line_begin(link);
         let end = self.line_end(link);
-        let (left, right, high) = (begin.inner, begin.outer, begin.top);
-        let (near, low) = (end.outer, end.top);
-        let far = if self.was_crossed(link.to) {
-            near
-        } else {
-            end.inner
-        };
-        let bend = right.saturating_add(near) / 2;
-        let way = format!(in self.sheet.alloc;
-            "M{left} {high}H{right}C{bend} {high} {bend} {low} {near} {low}H{far}"
-        )?;
+        let bend = begin.outer.saturating_add(end.outer) / 2;
         let class = if link.is_lazy { "l y" } else { "l" };
-        self.sheet.path(class, way.as_str())
+        let far = if was_crossed { end.outer } else { end.inner };
+        let way = [
+            ("M", begin.inner),
+            (" ", begin.top),
+            ("H", begin.outer),
+            ("C", bend),
+            (" ", begin.top),
+            (" ", bend),
+            (" ", end.top),
+            (" ", end.outer),
+            (" ", end.top),
+            ("H", far),
+        ];
+        sheet.path(class, &way, "")
     }
 
     // Whether a line was drawn already where others pass a column; one is from now on.
-    fn was_crossed(&mut self, point: usize) -> bool {
+    fn was_crossed(self, crossed: &mut [bool], point: usize) -> bool {
         let is_pass = self.plan.points.get(point).is_some_and(|it| it.is_pass);
-        match self.crossed.get_mut(point) {
+        match crossed.get_mut(point) {
             Some(crossed) if is_pass => std::mem::replace(crossed, true),
             _ => false,
         }
     }
 
     // Where a line begins: at the right of its point.
-    fn line_begin(&self, link: &PointLink) -> LineTip {
+    fn line_begin(self, link: &PointLink) -> LineTip
+        ensures { Leaves self.entry.plan.now self.entry.columns.now link.now result }
+    {
         let Some(point) = self.plan.points.get(link.from) else {
             return LineTip::NONE;
         };
@@ -300,7 +306,9 @@ impl DrawingBoard<'_> {
     }
 
     // Where a line ends: at the left of its point, or at its right where it passes a column.
-    fn line_end(&self, link: &PointLink) -> LineTip {
+    fn line_end(self, link: &PointLink) -> LineTip
+        ensures { Meets self.entry.plan.now self.entry.columns.now link.now result }
+    {
         let Some(point) = self.plan.points.get(link.to) else {
             return LineTip::NONE;
         };
@@ -318,7 +326,7 @@ impl DrawingBoard<'_> {
     }
 
     // How far the boxes of a block are from its edge.
-    fn side_of(&self, block: usize) -> usize {
+    fn side_of(self, block: usize) -> usize {
         match self.blocks.members.get(block) {
             Some(members) if members.len() > 1 && members.len() <= MOST_MEMBERS => FRAME_SIDE,
             _ => 0,
@@ -326,19 +334,17 @@ impl DrawingBoard<'_> {
     }
 
     // Draws the frames of cycles.
-    fn draw_cycles(&mut self) -> Result<(), AllocError> {
-        let blocks = self.blocks;
-        for (block, members) in blocks.members.iter().enumerate() {
+    fn draw_cycles(self, sheet: &mut SvgSheet) -> Result<(), AllocError> {
+        for (block, members) in self.blocks.members.iter().enumerate() {
             if members.len() > 1 {
-                let outer = self.block_frame(block);
-                self.draw_cycle(members.as_slice(), outer)?;
+                self.draw_cycle(sheet, members.as_slice(), self.block_frame(block))?;
             }
         }
         Ok(())
     }
 
     // Where a block stands.
-    fn block_frame(&self, block: usize) -> BoxFrame {
+    fn block_frame(self, block: usize) -> BoxFrame {
         match self.plan.points.get(block) {
             Some(point) => BoxFrame {
                 left: self.columns.left(point.layer),
@@ -355,22 +361,8 @@ impl DrawingBoard<'_> {
         }
     }
 
-    // Draws all boxes, each once.
-    #[tactic(auto, using(std::proofs::lemmas::Grind::common_steps, crate::proofs::BoxLemmas::boxes_step))]
-    fn draw_boxes(&mut self) -> Result<(), AllocError>
-        ensures { OnOk result (AddsBoxes self.old.graph.now.nodes.items
-            (string_bytes self.old.sheet.text) (string_bytes self.new.sheet.text)) }
-    {
-        let graph = self.graph;
-        for (number, node) in graph.nodes.iter().enumerate() {
-            let frame = self.box_frame(number);
-            draw_box(&mut self.sheet, node, frame)?;
-        }
-        Ok(())
-    }
-
     // Where a box stands: in its column alone, or in the frame of its cycle.
-    fn box_frame(&self, node: usize) -> BoxFrame {
+    fn box_frame(self, node: usize) -> BoxFrame {
         let block = self.blocks.of(node);
         let outer = self.block_frame(block);
         match self.blocks.members.get(block) {
@@ -382,124 +374,250 @@ impl DrawingBoard<'_> {
         }
     }
 
-    fn draw_cycle(&mut self, members: &[usize], outer: BoxFrame) -> Result<(), AllocError> {
-        let alloc = self.sheet.alloc;
-        let count = members.len();
-        self.sheet.rect("f", outer, 8)?;
-        let inner = self.links_among(members);
-        let name = format!(in alloc; "cycle of {count} \u{b7} {inner} imports")?;
+    fn draw_cycle(
+        self,
+        sheet: &mut SvgSheet,
+        members: &[usize],
+        outer: BoxFrame,
+    ) -> Result<(), AllocError> {
+        sheet.rect("f", outer, 8)?;
+        let name = cycle_name(sheet.alloc, members.len(), self.links_among(members))?;
         let at = spot(outer.left.saturating_add(12), outer.top.saturating_add(15));
-        self.sheet.label("w", at, name.as_str())?;
-        if count <= MOST_MEMBERS {
-            self.draw_arcs(members, outer)?;
+        sheet.label("w", at, name.as_str())?;
+        if members.len() <= MOST_MEMBERS {
+            self.draw_arcs(sheet, members, outer)?;
         }
-        self.sheet.push("\n")
+        sheet.push("\n")
     }
 
     // How many lines there are among boxes.
-    fn links_among(&self, members: &[usize]) -> usize {
-        self.graph
-            .links
-            .iter()
-            .filter(|link| members.contains(&link.from) && members.contains(&link.to))
-            .count()
+    fn links_among(self, members: &[usize]) -> usize {
+        let mut among: usize = 0;
+        for link in &self.graph.links {
+            if members.contains(&link.from) && members.contains(&link.to) {
+                among = among.saturating_add(1);
+            }
+        }
+        among
     }
 
     // Draws the lines within a cycle: those that lead down at the right, those that lead up at the left.
-    fn draw_arcs(&mut self, members: &[usize], outer: BoxFrame) -> Result<(), AllocError> {
-        let graph = self.graph;
-        for link in &graph.links {
+    fn draw_arcs(
+        self,
+        sheet: &mut SvgSheet,
+        members: &[usize],
+        outer: BoxFrame,
+    ) -> Result<(), AllocError> {
+        for link in &self.graph.links {
             if let (Some(from), Some(to)) = (
                 place_in(members, link.from),
                 place_in(members, link.to),
             ) {
-                self.draw_arc(link, from, to, outer)?;
+                draw_arc(sheet, *link, from, to, outer)?;
             }
         }
         Ok(())
     }
 
-    fn draw_arc(
-        &mut self,
-        link: &DrawnLink,
-        from: usize,
-        to: usize,
-        outer: BoxFrame,
-    ) -> Result<(), AllocError> {
-        let inner = member_frame(outer, 0, 1);
-        let far = from.abs_diff(to).min(6).saturating_mul(4).saturating_add(8);
-        let (begin, end) = (
-            outer.top.saturating_add(row_middle(from)),
-            outer.top.saturating_add(row_middle(to)),
-        );
-        let alloc = self.sheet.alloc;
-        let (class, way) = if from < to {
-            let begin = begin.saturating_add(4);
-            let end = end.saturating_sub(4);
-            let (edge, out) = (inner.right(), inner.right().saturating_add(far));
-            let (tip, back, low) = (
-                edge.saturating_add(5),
-                end.saturating_sub(3),
-                end.saturating_add(3),
-            );
-            (
-                "n",
-                format!(in alloc;
-                    "M{edge} {begin}C{out} {begin} {out} {end} {edge} {end}M{tip} {back}L{edge} {end}L{tip} {low}"
-                )?,
-            )
-        } else {
-            let begin = begin.saturating_sub(4);
-            let end = end.saturating_add(4);
-            let (edge, out) = (inner.left, inner.left.saturating_sub(far));
-            let (tip, back, low) = (
-                edge.saturating_sub(5),
-                end.saturating_sub(3),
-                end.saturating_add(3),
-            );
-            (
-                "r",
-                format!(in alloc;
-                    "M{edge} {begin}C{out} {begin} {out} {end} {edge} {end}M{tip} {back}L{edge} {end}L{tip} {low}"
-                )?,
-            )
-        };
-        let class = if link.is_lazy {
-            format!(in alloc; "{class} y")?
-        } else {
-            String::from_str(alloc, class)?
-        };
-        self.sheet.path(class.as_str(), way.as_str())
-    }
-
     // Draws what the colours stand for, and the lines.
-    fn draw_legend(&mut self) -> Result<(), AllocError> {
-        let graph = self.graph;
-        let alloc = self.sheet.alloc;
-        let top = self.columns.bottom.saturating_add(30);
+    fn draw_legend(self, sheet: &mut SvgSheet) -> Result<(), AllocError> {
         let mut left = MARGIN;
-        let mut base = top;
-        for (colour, name) in graph.colours.iter().enumerate() {
+        let mut base = self.columns.bottom.saturating_add(30);
+        for (colour, name) in self.graph.colours.iter().enumerate() {
             let shown = if name.is_empty() { "./" } else { name.as_str() };
             let wide = text_length(shown).saturating_mul(67) / 10;
             if left.saturating_add(wide) > self.columns.right {
                 left = MARGIN;
                 base = base.saturating_add(18);
             }
-            let fill = tint(colour);
-            let mark = format!(in alloc;
-                "<rect x=\"{left}\" y=\"{}\" width=\"9\" height=\"9\" rx=\"2\" fill=\"{fill}\"/>",
-                base.saturating_sub(8)
-            )?;
-            self.sheet.push(mark.as_str())?;
-            self.sheet
-                .label("u", spot(left.saturating_add(14), base), shown)?;
+            draw_colour(sheet, tint(colour), spot(left, base), shown)?;
             left = left.saturating_add(wide).saturating_add(40);
         }
         let note = spot(MARGIN, base.saturating_add(20));
-        self.sheet.label("x", note, KEY)?;
-        self.sheet.push("\n")
+        sheet.label("x", note, KEY)?;
+        sheet.push("\n")
     }
+}
+
+// Begins a picture of this size: its style, and a ground.
+fn begin_svg(sheet: &mut SvgSheet, whole: BoxFrame) -> Result<(), AllocError> {
+    sheet.push("<svg xmlns=\"http://www.w3.org/2000/svg\" viewBox=\"0 0")?;
+    sheet.put(&[
+        (" ", whole.width),
+        (" ", whole.height),
+        ("\" width=\"", whole.width),
+        ("\" height=\"", whole.height),
+    ])?;
+    sheet.push("\">\n<style>")?;
+    sheet.push(STYLE)?;
+    sheet.push("</style>\n")?;
+    sheet.rect("p", whole, 0)
+}
+
+// What stands below the title, with the number of cycles.
+fn subtitle_of(alloc: Global, subtitle: &str, cycles: usize) -> Result<String, AllocError> {
+    match cycles {
+        0 => String::from_str(alloc, subtitle),
+        1 => format!(in alloc; "{subtitle} \u{b7} 1 cycle"),
+        _ => format!(in alloc; "{subtitle} \u{b7} {cycles} cycles"),
+    }
+}
+
+fn cycle_name(alloc: Global, boxes: usize, imports: usize) -> Result<String, AllocError> {
+    format!(in alloc; "cycle of {boxes} \u{b7} {imports} imports")
+}
+
+// Begins the group of the lines of a box, if the last line is of another one, and ends that one's.
+#[tactic(auto, using(std::proofs::lemmas::Grind::common_steps, crate::proofs::BoxLemmas::grows_by, crate::proofs::BoxLemmas::grows_again, crate::proofs::BoxLemmas::grows_same))]
+fn turn_to(
+    sheet: &mut SvgSheet,
+    graph: &DrawnGraph,
+    trunk: usize,
+    last: Option<usize>,
+) -> Result<(), AllocError>
+    ensures { OnOk result (Grows (string_bytes sheet.old.text) (string_bytes sheet.new.text)) }
+{
+    if last == Some(trunk) {
+        return Ok(());
+    }
+    end_trunk(sheet, last)?;
+    begin_trunk(sheet, graph.nodes.get(trunk))
+}
+
+#[tactic(auto, using(std::proofs::lemmas::Grind::common_steps, crate::proofs::BoxLemmas::grows_by, crate::proofs::BoxLemmas::grows_again, crate::proofs::BoxLemmas::grows_same))]
+fn end_trunk(sheet: &mut SvgSheet, last: Option<usize>) -> Result<(), AllocError>
+    ensures { OnOk result (Grows (string_bytes sheet.old.text) (string_bytes sheet.new.text)) }
+{
+    if last.is_none() {
+        return Ok(());
+    }
+    sheet.push("</g>\n")
+}
+
+#[tactic(auto, using(std::proofs::lemmas::Grind::common_steps, crate::proofs::BoxLemmas::grows_by, crate::proofs::BoxLemmas::grows_again, crate::proofs::BoxLemmas::grows_same))]
+fn begin_trunk(sheet: &mut SvgSheet, node: Option<&DrawnBox>) -> Result<(), AllocError>
+    ensures { OnOk result (Grows (string_bytes sheet.old.text) (string_bytes sheet.new.text)) }
+{
+    let Some(node) = node else {
+        return begin_group(sheet, tint(9));
+    };
+    begin_group(sheet, tint(node.colour))?;
+    push_whole_name(sheet, node)
+}
+
+#[tactic(auto, using(std::proofs::lemmas::Grind::common_steps, crate::proofs::BoxLemmas::grows_by, crate::proofs::BoxLemmas::grows_again, crate::proofs::BoxLemmas::grows_same))]
+fn begin_group(sheet: &mut SvgSheet, stroke: &str) -> Result<(), AllocError>
+    ensures { OnOk result (Grows (string_bytes sheet.old.text) (string_bytes sheet.new.text)) }
+{
+    sheet.push("<g stroke=\"")?;
+    sheet.push(stroke)?;
+    sheet.push("\">")
+}
+
+#[tactic(auto, using(std::proofs::lemmas::Grind::common_steps, crate::proofs::BoxLemmas::grows_by, crate::proofs::BoxLemmas::grows_again, crate::proofs::BoxLemmas::grows_same))]
+fn push_whole_name(sheet: &mut SvgSheet, node: &DrawnBox) -> Result<(), AllocError>
+    ensures { OnOk result (Grows (string_bytes sheet.old.text) (string_bytes sheet.new.text)) }
+{
+    let name = format!(in sheet.alloc; "{}{}", node.folder, node.name)?;
+    sheet.tip(name.as_str())
+}
+
+// Draws all boxes, each once.
+#[tactic(auto, using(std::proofs::lemmas::Grind::common_steps, crate::proofs::BoxLemmas::boxes_step))]
+fn draw_boxes(sheet: &mut SvgSheet, board: DrawingBoard) -> Result<(), AllocError>
+    ensures { OnOk result (AddsBoxes board.entry.graph.now.nodes.items
+        (string_bytes sheet.old.text) (string_bytes sheet.new.text)) }
+{
+    for (number, node) in board.graph.nodes.iter().enumerate() {
+        draw_box(sheet, node, board.box_frame(number))?;
+    }
+    Ok(())
+}
+
+// Draws a line within a frame, between the boxes of these places.
+fn draw_arc(
+    sheet: &mut SvgSheet,
+    link: DrawnLink,
+    from: usize,
+    to: usize,
+    outer: BoxFrame,
+) -> Result<(), AllocError> {
+    let leads_down = from < to;
+    let class = match (leads_down, link.is_lazy) {
+        (true, true) => "n y",
+        (true, false) => "n",
+        (false, true) => "r y",
+        (false, false) => "r",
+    };
+    let arc = arc_between(from, to, outer);
+    let way = [
+        ("M", arc.edge),
+        (" ", arc.begin),
+        ("C", arc.out),
+        (" ", arc.begin),
+        (" ", arc.out),
+        (" ", arc.end),
+        (" ", arc.edge),
+        (" ", arc.end),
+        ("M", arc.tip),
+        (" ", arc.end.saturating_sub(3)),
+        ("L", arc.edge),
+        (" ", arc.end),
+        ("L", arc.tip),
+        (" ", arc.end.saturating_add(3)),
+    ];
+    sheet.path(class, &way, "")
+}
+
+// A line within a frame: where it begins and ends, at which edge of the boxes, how far out it leads, and where its tip ends.
+#[derive(Clone, Copy)]
+struct FrameArc {
+    begin: usize,
+    end: usize,
+    edge: usize,
+    out: usize,
+    tip: usize,
+}
+
+fn arc_between(from: usize, to: usize, outer: BoxFrame) -> FrameArc {
+    let inner = member_frame(outer, 0, 1);
+    let far = from.abs_diff(to).min(6).saturating_mul(4).saturating_add(8);
+    let begin = outer.top.saturating_add(row_middle(from));
+    let end = outer.top.saturating_add(row_middle(to));
+    if from < to {
+        FrameArc {
+            begin: begin.saturating_add(4),
+            end: end.saturating_sub(4),
+            edge: inner.right(),
+            out: inner.right().saturating_add(far),
+            tip: inner.right().saturating_add(5),
+        }
+    } else {
+        FrameArc {
+            begin: begin.saturating_sub(4),
+            end: end.saturating_add(4),
+            edge: inner.left,
+            out: inner.left.saturating_sub(far),
+            tip: inner.left.saturating_sub(5),
+        }
+    }
+}
+
+// Draws a colour with what it stands for.
+fn draw_colour(
+    sheet: &mut SvgSheet,
+    fill: &str,
+    at: SheetSpot,
+    name: &str,
+) -> Result<(), AllocError> {
+    sheet.put(&[
+        ("<rect x=\"", at.left),
+        ("\" y=\"", at.top.saturating_sub(8)),
+    ])?;
+    sheet.push("\" width=\"9\" height=\"9\" rx=\"2\" fill=\"")?;
+    sheet.push(fill)?;
+    sheet.push("\"/>")?;
+    sheet.label("u", spot(at.left.saturating_add(14), at.top), name)
 }
 
 // An end of a line: where it leaves the column or meets it, and where it stands at a box.
@@ -523,7 +641,9 @@ fn spot(left: usize, top: usize) -> SheetSpot {
 }
 
 // How far from above something is that stands below the top of a point.
-fn top_of(top: usize, below: usize) -> usize {
+fn top_of(top: usize, below: usize) -> usize
+    ensures { result ≡ height_of top below }
+{
     top.saturating_add(below).saturating_add(HEAD)
 }
 

@@ -3,7 +3,7 @@
 ghost use Rattle.std.specs.Prelude.{◌≡◌, ◌+◌, ◌^◌, ◌<◌, ◌≤◌, All, IfOk, length, slice_index, vec_len};
 ghost use Rattle.gutsirava_views.specs.Layers.{AreBehind};
 
-use crate::picture::blocks::{NodeBlocks, empty_lists};
+use crate::picture::blocks::{NodeBlocks, empty_lists, push_at};
 use crate::picture::nodes::{BoxKind, DrawnGraph};
 use std::alloc::{AllocError, Global};
 
@@ -13,17 +13,31 @@ pub(crate) fn layers_of_blocks(
     graph: &DrawnGraph,
     blocks: &NodeBlocks,
 ) -> Result<Vec<usize>, AllocError> {
-    let askers = askers_of(alloc, graph, blocks)?;
     let sizes = sizes_of(alloc, graph, blocks)?;
-    let most = most_rows(sizes.as_slice());
-    let mut layers = layers_of(alloc, askers.as_slice(), sizes.as_slice(), most)?;
-    let last = last_layer(layers.as_slice(), sizes.as_slice()).saturating_add(1);
-    for (layer, size) in layers.iter_mut().zip(&sizes) {
+    let mut layers = first_layers(alloc, graph, blocks, sizes.as_slice())?;
+    move_externals(layers.as_mut_slice(), sizes.as_slice());
+    Ok(layers)
+}
+
+// The column of each block, where what is external stands among the others.
+fn first_layers(
+    alloc: Global,
+    graph: &DrawnGraph,
+    blocks: &NodeBlocks,
+    sizes: &[usize],
+) -> Result<Vec<usize>, AllocError> {
+    let askers = askers_of(alloc, graph, blocks)?;
+    layers_of(alloc, askers.as_slice(), sizes, most_rows(sizes))
+}
+
+// Lets what is external stand behind all others.
+fn move_externals(layers: &mut [usize], sizes: &[usize]) {
+    let last = last_layer(layers, sizes).saturating_add(1);
+    for (layer, size) in layers.iter_mut().zip(sizes) {
         if *size == 0 {
             *layer = last;
         }
     }
-    Ok(layers)
 }
 
 // For each block those before it that ask for it.
@@ -35,10 +49,8 @@ fn askers_of(
     let mut askers = empty_lists(alloc, blocks.members.len())?;
     for link in &graph.links {
         let (from, to) = (blocks.of(link.from), blocks.of(link.to));
-        if from < to
-            && let Some(list) = askers.get_mut(to)
-        {
-            list.push(from)?;
+        if from < to {
+            push_at(askers.as_mut_slice(), to, from)?;
         }
     }
     Ok(askers)
@@ -52,13 +64,19 @@ fn sizes_of(
 ) -> Result<Vec<usize>, AllocError> {
     let mut sizes = Vec::new(alloc);
     for members in &blocks.members {
-        let is_external = members
-            .first()
-            .and_then(|node| graph.nodes.get(*node))
-            .is_some_and(|node| node.kind == BoxKind::External);
-        sizes.push(if is_external { 0 } else { members.len() })?;
+        sizes.push(rows_of(graph, members.as_slice()))?;
     }
     Ok(sizes)
+}
+
+fn rows_of(graph: &DrawnGraph, members: &[usize]) -> usize {
+    let Some(node) = members.first() else {
+        return 0;
+    };
+    match graph.nodes.get(*node) {
+        Some(node) if node.kind == BoxKind::External => 0,
+        _ => members.len(),
+    }
 }
 
 // So many rows a column may have: with that, a picture is about twice as wide as it is high.

@@ -2,7 +2,7 @@
 
 use crate::picture::blocks::NodeBlocks;
 use crate::picture::paths::{
-    depth_for, folder_count, folder_in, parted, shared_folder, short_path,
+    depth_for, folder_count, folder_in, parted, shared_folder, short_path, sorted_folders,
 };
 use crate::sizes::counted;
 use crate::{ImportKind, ImportTarget, Overview, size_text};
@@ -71,20 +71,42 @@ pub(crate) struct DrawnGraph {
 pub(crate) fn graph_of(alloc: Global, overview: &Overview) -> Result<DrawnGraph, AllocError> {
     let paths = paths_of(alloc, overview)?;
     let colours = colours_of(alloc, paths.as_slice())?;
-    let mut boxes = match folder_depth(alloc, paths.as_slice())? {
-        Some(depth) => folder_boxes(alloc, overview, paths.as_slice(), &colours, depth)?,
-        None => module_boxes(alloc, overview, paths.as_slice(), &colours)?,
-    };
+    let boxes = boxes_of(alloc, overview, paths.as_slice(), &colours)?;
+    with_links(alloc, overview, boxes, colours)
+}
+
+// Boxes, with the lines between them.
+fn with_links(
+    alloc: Global,
+    overview: &Overview,
+    mut boxes: BoxList,
+    colours: FolderColours,
+) -> Result<DrawnGraph, AllocError> {
     let links = links_of(alloc, overview, &mut boxes)?;
     let subtitle = subtitle_of(alloc, overview, &boxes)?;
+    let title = title_of(alloc, overview)?;
     let BoxList { nodes, .. } = boxes;
+    let FolderColours { names, .. } = colours;
     Ok(DrawnGraph {
         nodes,
         links,
-        colours: colours.names,
-        title: title_of(alloc, overview)?,
+        colours: names,
+        title,
         subtitle,
     })
+}
+
+// A box for each module, or for each folder.
+fn boxes_of(
+    alloc: Global,
+    overview: &Overview,
+    paths: &[&str],
+    colours: &FolderColours,
+) -> Result<BoxList, AllocError> {
+    match folder_depth(alloc, paths)? {
+        Some(depth) => folder_boxes(alloc, overview, paths, colours, depth),
+        None => module_boxes(alloc, overview, paths, colours),
+    }
 }
 
 // The paths of the modules, without the folder that all of them lie in.
@@ -94,11 +116,10 @@ fn paths_of<'o>(alloc: Global, overview: &'o Overview) -> Result<Vec<&'o str>, A
         paths.push(short_path(input.path.as_str()))?;
     }
     let shared = shared_folder(paths.as_slice());
-    let mut inner = Vec::new(alloc);
-    for path in &paths {
-        inner.push(behind(path, shared))?;
+    for path in paths.iter_mut() {
+        *path = behind(path, shared);
     }
-    Ok(inner)
+    Ok(paths)
 }
 
 fn behind(path: &str, at: usize) -> &str {
@@ -129,22 +150,34 @@ struct FolderColours {
 
 fn colours_of(alloc: Global, paths: &[&str]) -> Result<FolderColours, AllocError> {
     let depth = depth_for(alloc, paths, COLOURS)?;
-    let mut counts = BTreeMap::new(alloc);
-    for path in paths {
-        let folder = String::from_str(alloc, folder_in(path, depth))?;
-        let count = counts.entry(folder)?.or_insert(0usize);
-        *count = count.saturating_add(1);
-    }
-    let mut order = Vec::new(alloc);
-    for (folder, count) in &counts {
-        order.push((*count, folder.as_str()))?;
-    }
-    order.sort()?;
+    let folders = sorted_folders(alloc, paths, depth)?;
+    let names = most_frequent(alloc, folders.as_slice())?;
+    Ok(FolderColours { depth, names })
+}
+
+// The folders that stand most often among these, which are sorted; as many as there are colours.
+fn most_frequent(alloc: Global, folders: &[&str]) -> Result<Vec<String>, AllocError> {
+    let counts = counts_of(alloc, folders)?;
     let mut names = Vec::new(alloc);
-    for (_, folder) in order.iter().rev().take(COLOURS) {
+    for (_, folder) in counts.iter().rev().take(COLOURS) {
         names.push(String::from_str(alloc, *folder)?)?;
     }
-    Ok(FolderColours { depth, names })
+    Ok(names)
+}
+
+// How often each of these folders stands there, the least often first.
+fn counts_of<'p>(alloc: Global, folders: &[&'p str]) -> Result<Vec<(usize, &'p str)>, AllocError> {
+    let mut counts = Vec::new(alloc);
+    let mut count: usize = 0;
+    for (at, folder) in folders.iter().enumerate() {
+        count = count.saturating_add(1);
+        if folders.get(at.saturating_add(1)) != Some(folder) {
+            counts.push((count, *folder))?;
+            count = 0;
+        }
+    }
+    counts.sort()?;
+    Ok(counts)
 }
 
 impl FolderColours {
@@ -173,27 +206,61 @@ fn module_boxes(
     paths: &[&str],
     colours: &FolderColours,
 ) -> Result<BoxList, AllocError> {
-    let mut nodes = Vec::new(alloc);
-    let mut places = Vec::new(alloc);
-    for (at, (input, path)) in overview.inputs.iter().zip(paths).enumerate() {
-        let (folder, name) = parted(path);
-        places.push(at)?;
-        nodes.push(DrawnBox {
-            kind: BoxKind::Module,
-            folder: String::from_str(alloc, folder)?,
-            name: String::from_str(alloc, name)?,
-            note: size_text(alloc, input.bytes)?,
-            colour: colours.of(path),
-            bytes: input.bytes,
-            is_entry: is_entry(overview, at),
-            is_asked: false,
-        })?;
-    }
+    let nodes = module_nodes(alloc, overview, paths, colours)?;
     Ok(BoxList {
+        places: first_numbers(alloc, nodes.len())?,
         nodes,
-        places,
         externals: 0,
     })
+}
+
+fn first_numbers(alloc: Global, count: usize) -> Result<Vec<usize>, AllocError> {
+    let mut numbers = Vec::new(alloc);
+    for number in 0..count {
+        numbers.push(number)?;
+    }
+    Ok(numbers)
+}
+
+fn module_nodes(
+    alloc: Global,
+    overview: &Overview,
+    paths: &[&str],
+    colours: &FolderColours,
+) -> Result<Vec<DrawnBox>, AllocError> {
+    let mut nodes = Vec::new(alloc);
+    for (at, (input, path)) in overview.inputs.iter().zip(paths).enumerate() {
+        let mut node = module_node(alloc, path, input.bytes)?;
+        node.colour = colours.of(path);
+        node.is_entry = is_entry(overview, at);
+        nodes.push(node)?;
+    }
+    Ok(nodes)
+}
+
+fn module_node(alloc: Global, path: &str, bytes: usize) -> Result<DrawnBox, AllocError> {
+    let (folder, name) = parted(path);
+    let mut node = DrawnBox::new(alloc, BoxKind::Module, name)?;
+    node.folder.push_str(folder)?;
+    node.note = size_text(alloc, bytes)?;
+    node.bytes = bytes;
+    Ok(node)
+}
+
+impl DrawnBox {
+    // A box of this name, with nothing beside it.
+    fn new(alloc: Global, kind: BoxKind, name: &str) -> Result<DrawnBox, AllocError> {
+        Ok(DrawnBox {
+            kind,
+            folder: String::new(alloc),
+            name: String::from_str(alloc, name)?,
+            note: String::new(alloc),
+            colour: COLOURS,
+            bytes: 0,
+            is_entry: false,
+            is_asked: false,
+        })
+    }
 }
 
 fn is_entry(overview: &Overview, input: usize) -> bool {
@@ -201,7 +268,7 @@ fn is_entry(overview: &Overview, input: usize) -> bool {
 }
 
 // A folder while its modules are counted.
-#[derive(Drop)]
+#[derive(Clone, Copy)]
 struct FolderTally {
     modules: usize,
     bytes: usize,
@@ -216,33 +283,66 @@ fn folder_boxes(
     colours: &FolderColours,
     depth: usize,
 ) -> Result<BoxList, AllocError> {
-    let mut boxes = BoxList {
-        nodes: Vec::new(alloc),
-        places: Vec::new(alloc),
-        externals: 0,
-    };
-    let mut known = BTreeMap::new(alloc);
-    let mut tallies = Vec::new(alloc);
-    for (at, (input, path)) in overview.inputs.iter().zip(paths).enumerate() {
-        let folder = String::from_str(alloc, folder_in(path, depth))?;
-        let place = *known.entry(folder)?.or_insert(boxes.nodes.len());
-        if place == boxes.nodes.len() {
-            boxes.nodes.push(folder_box(alloc, path, depth, colours)?)?;
-            tallies.push(FolderTally {
-                modules: 0,
-                bytes: 0,
-                is_entry: false,
-            })?;
-        }
-        boxes.places.push(place)?;
-        if let Some(tally) = tallies.get_mut(place) {
-            tally.add(input.bytes, is_entry(overview, at));
-        }
-    }
+    let mut boxes = empty_folders(alloc, paths, colours, depth)?;
+    let count = boxes.nodes.len();
+    let tallies = tallies_of(alloc, overview, boxes.places.as_slice(), count)?;
     for (node, tally) in boxes.nodes.iter_mut().zip(&tallies) {
         tally.tell(alloc, node)?;
     }
     Ok(boxes)
+}
+
+// The boxes of folders, in the order in which they are found, with nothing in them.
+fn empty_folders(
+    alloc: Global,
+    paths: &[&str],
+    colours: &FolderColours,
+    depth: usize,
+) -> Result<BoxList, AllocError> {
+    let places = folder_places(alloc, paths, depth)?;
+    let mut nodes = Vec::new(alloc);
+    for (path, place) in paths.iter().zip(&places) {
+        if *place == nodes.len() {
+            nodes.push(folder_box(alloc, path, depth, colours)?)?;
+        }
+    }
+    Ok(BoxList {
+        nodes,
+        places,
+        externals: 0,
+    })
+}
+
+// The number of each path's folder, in the order in which folders are found.
+fn folder_places(alloc: Global, paths: &[&str], depth: usize) -> Result<Vec<usize>, AllocError> {
+    let mut known = BTreeMap::new(alloc);
+    let mut places = Vec::new(alloc);
+    for path in paths {
+        let next = known.len();
+        let place = *known.entry(folder_in(path, depth))?.or_insert(next);
+        places.push(place)?;
+    }
+    Ok(places)
+}
+
+fn tallies_of(
+    alloc: Global,
+    overview: &Overview,
+    places: &[usize],
+    count: usize,
+) -> Result<Vec<FolderTally>, AllocError> {
+    let none = FolderTally {
+        modules: 0,
+        bytes: 0,
+        is_entry: false,
+    };
+    let mut tallies = vec![in alloc; none; count]?;
+    for (at, (input, place)) in overview.inputs.iter().zip(places).enumerate() {
+        if let Some(tally) = tallies.get_mut(*place) {
+            tally.add(input.bytes, is_entry(overview, at));
+        }
+    }
+    Ok(tallies)
 }
 
 fn folder_box(
@@ -253,16 +353,9 @@ fn folder_box(
 ) -> Result<DrawnBox, AllocError> {
     let folder = folder_in(path, depth);
     let name = if folder.is_empty() { "./" } else { folder };
-    Ok(DrawnBox {
-        kind: BoxKind::Folder,
-        folder: String::new(alloc),
-        name: String::from_str(alloc, name)?,
-        note: String::new(alloc),
-        colour: colours.of(path),
-        bytes: 0,
-        is_entry: false,
-        is_asked: false,
-    })
+    let mut node = DrawnBox::new(alloc, BoxKind::Folder, name)?;
+    node.colour = colours.of(path);
+    Ok(node)
 }
 
 impl FolderTally {
@@ -272,14 +365,20 @@ impl FolderTally {
         self.is_entry = self.is_entry || is_entry;
     }
 
-    fn tell(&self, alloc: Global, node: &mut DrawnBox) -> Result<(), AllocError> {
-        let size = size_text(alloc, self.bytes)?;
-        let modules = counted(alloc, self.modules, "module")?;
-        node.note = format!(in alloc; "{modules} \u{b7} {size}")?;
+    fn tell(self, alloc: Global, node: &mut DrawnBox) -> Result<(), AllocError> {
+        let mut note = counted(alloc, self.modules, "module")?;
+        push_dotted(&mut note, size_text(alloc, self.bytes)?)?;
+        node.note = note;
         node.bytes = self.bytes;
         node.is_entry = self.is_entry;
         Ok(())
     }
+}
+
+// Appends a text behind a dot.
+fn push_dotted(text: &mut String, more: String) -> Result<(), AllocError> {
+    text.push_str(" \u{b7} ")?;
+    text.push_str(more.as_str())
 }
 
 // The lines between boxes; boxes for what is external are added.
@@ -290,26 +389,36 @@ fn links_of(
 ) -> Result<Vec<DrawnLink>, AllocError> {
     let mut known = BTreeMap::new(alloc);
     let mut all = BTreeMap::new(alloc);
-    for (input, from) in overview.inputs.iter().zip(0..boxes.places.len()) {
-        let from = boxes.place_of(from);
+    for (from, input) in overview.inputs.iter().enumerate() {
+        let asking = boxes.place_of(from);
         for import in &input.imports {
-            let to = match &import.target {
-                ImportTarget::Input(target) => boxes.place_of(*target),
-                ImportTarget::External(name) => {
-                    let place = *known.entry(name.clone()?)?.or_insert(boxes.nodes.len());
-                    boxes.add_external(alloc, name.as_str(), place)?;
-                    place
-                }
-            };
-            if from != to {
-                let is_lazy = matches!(import.kind, ImportKind::Dynamic);
-                let link = all.entry((from, to))?.or_insert(is_lazy);
-                *link = *link && is_lazy;
-            }
+            let to = boxes.place_for(alloc, &mut known, &import.target)?;
+            let is_lazy = matches!(import.kind, ImportKind::Dynamic);
+            add_link(&mut all, (asking, to), is_lazy)?;
         }
     }
+    listed_links(alloc, &all)
+}
+
+// Adds a line between two boxes: one that is dashed where each is.
+fn add_link(
+    all: &mut BTreeMap<(usize, usize), bool>,
+    ends: (usize, usize),
+    is_lazy: bool,
+) -> Result<(), AllocError> {
+    if ends.0 != ends.1 {
+        let link = all.entry(ends)?.or_insert(is_lazy);
+        *link = *link && is_lazy;
+    }
+    Ok(())
+}
+
+fn listed_links(
+    alloc: Global,
+    all: &BTreeMap<(usize, usize), bool>,
+) -> Result<Vec<DrawnLink>, AllocError> {
     let mut links = Vec::new(alloc);
-    for ((from, to), is_lazy) in &all {
+    for ((from, to), is_lazy) in all {
         links.push(DrawnLink {
             from: *from,
             to: *to,
@@ -325,22 +434,30 @@ impl BoxList {
         self.places.get(input).copied().unwrap_or(0)
     }
 
+    // The box of what is asked for; one for what is external is added, if it has none.
+    fn place_for<'o>(
+        &mut self,
+        alloc: Global,
+        known: &mut BTreeMap<&'o str, usize>,
+        target: &'o ImportTarget,
+    ) -> Result<usize, AllocError> {
+        match target {
+            ImportTarget::Input(input) => Ok(self.place_of(*input)),
+            ImportTarget::External(name) => {
+                let place = *known.entry(name.as_str())?.or_insert(self.nodes.len());
+                self.add_external(alloc, name.as_str(), place)?;
+                Ok(place)
+            }
+        }
+    }
+
     // Adds the box of what is external, if it has none.
     fn add_external(&mut self, alloc: Global, name: &str, place: usize) -> Result<(), AllocError> {
-        if place < self.nodes.len() {
-            return Ok(());
+        if place == self.nodes.len() {
+            self.externals = self.externals.saturating_add(1);
+            self.nodes
+                .push(DrawnBox::new(alloc, BoxKind::External, name)?)?;
         }
-        self.externals = self.externals.saturating_add(1);
-        self.nodes.push(DrawnBox {
-            kind: BoxKind::External,
-            folder: String::new(alloc),
-            name: String::from_str(alloc, name)?,
-            note: String::new(alloc),
-            colour: COLOURS,
-            bytes: 0,
-            is_entry: false,
-            is_asked: false,
-        })?;
         Ok(())
     }
 }
@@ -357,17 +474,20 @@ fn subtitle_of(alloc: Global, overview: &Overview, boxes: &BoxList) -> Result<St
     for input in &overview.inputs {
         bytes = bytes.saturating_add(input.bytes);
     }
-    let size = size_text(alloc, bytes)?;
     let count = overview.inputs.len();
-    let modules = counted(alloc, count, "module")?;
+    let mut subtitle = counted(alloc, count, "module")?;
     let inner = boxes.nodes.len().saturating_sub(boxes.externals);
-    let folders = if inner < count {
-        format!(in alloc; " in {inner} folders")?
-    } else {
-        String::new(alloc)
-    };
-    let externals = counted(alloc, boxes.externals, "external")?;
-    format!(in alloc; "{modules}{folders} \u{b7} {size} \u{b7} {externals}")
+    if inner < count {
+        push_folders(alloc, &mut subtitle, inner)?;
+    }
+    push_dotted(&mut subtitle, size_text(alloc, bytes)?)?;
+    push_dotted(&mut subtitle, counted(alloc, boxes.externals, "external")?)?;
+    Ok(subtitle)
+}
+
+fn push_folders(alloc: Global, text: &mut String, count: usize) -> Result<(), AllocError> {
+    let folders = format!(in alloc; " in {count} folders")?;
+    text.push_str(folders.as_str())
 }
 
 impl DrawnGraph {

@@ -1,7 +1,6 @@
 //! Paths as a picture shows them.
 
 use std::alloc::{AllocError, Global};
-use std::collections::BTreeSet;
 
 const PACKAGES: &str = "node_modules/";
 
@@ -82,9 +81,28 @@ pub(crate) fn folder_count(
     paths: &[&str],
     depth: usize,
 ) -> Result<usize, AllocError> {
-    let mut folders = BTreeSet::new(alloc);
-    for path in paths {
-        folders.insert(String::from_str(alloc, folder_in(path, depth))?)?;
+    let folders = sorted_folders(alloc, paths, depth)?;
+    let mut count: usize = 0;
+    let mut last = None;
+    for folder in &folders {
+        if last != Some(*folder) {
+            count = count.saturating_add(1);
+            last = Some(*folder);
+        }
     }
-    Ok(folders.len())
+    Ok(count)
+}
+
+/// The folder of each path, as far as so many of its names, in their order.
+pub(crate) fn sorted_folders<'p>(
+    alloc: Global,
+    paths: &[&'p str],
+    depth: usize,
+) -> Result<Vec<&'p str>, AllocError> {
+    let mut folders = Vec::new(alloc);
+    for path in paths {
+        folders.push(folder_in(path, depth))?;
+    }
+    folders.sort()?;
+    Ok(folders)
 }

@@ -1,6 +1,6 @@
 //! What stands in columns, and the lines between neighbouring columns.
 
-use crate::picture::blocks::NodeBlocks;
+use crate::picture::blocks::{NodeBlocks, push_at};
 use crate::picture::nodes::{DrawnGraph, DrawnLink};
 use std::alloc::{AllocError, Global};
 use std::collections::BTreeMap;
@@ -49,6 +49,7 @@ pub(crate) struct PointLink {
 pub(crate) struct ColumnPlan {
     /// The blocks, in their order, and then where lines pass.
     pub(crate) points: Vec<ColumnPoint>,
+    /// In the order of the boxes whose lines run together in them.
     pub(crate) links: Vec<PointLink>,
     /// The points of each column, from above.
     pub(crate) columns: Vec<Vec<usize>>,
@@ -275,16 +276,17 @@ impl PlanDraft {
         let PlanDraft {
             alloc,
             points,
-            links,
+            mut links,
             passes: _passes,
             known: _known,
         } = self;
+        links.sort_by_key(|link| link.trunk)?;
         let mut columns = Vec::new(alloc);
         for (number, point) in points.iter().enumerate() {
             for _ in columns.len()..point.layer.saturating_add(1) {
                 columns.push(Vec::new(alloc))?;
             }
-            add_to(&mut columns, point.layer, number)?;
+            push_at(columns.as_mut_slice(), point.layer, number)?;
         }
         Ok(ColumnPlan {
             points,
@@ -292,13 +294,6 @@ impl PlanDraft {
             columns,
         })
     }
-}
-
-fn add_to(columns: &mut Vec<Vec<usize>>, layer: usize, point: usize) -> Result<(), AllocError> {
-    if let Some(column) = columns.get_mut(layer) {
-        column.push(point)?;
-    }
-    Ok(())
 }
 
 // Where lines begin and end at a box.

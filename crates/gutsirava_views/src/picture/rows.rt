@@ -36,7 +36,7 @@ struct Neighbour {
 /// Lets each point stand where it is to stand; the first at 0.
 pub(crate) fn settle(alloc: Global, plan: &mut ColumnPlan) -> Result<(), AllocError> {
     let mut rows = Arrangement::new(alloc, plan)?;
-    rows.stack(plan)?;
+    stack(plan);
     for sweep in 0..SWEEPS {
         if sweep % 2 == 0 {
             rows.arrange_all(plan, Side::Before)?;
@@ -50,6 +50,32 @@ pub(crate) fn settle(alloc: Global, plan: &mut ColumnPlan) -> Result<(), AllocEr
     }
     lower(plan.points.as_mut_slice());
     Ok(())
+}
+
+// Lets the points of each column stand below each other, around the middle.
+fn stack(plan: &mut ColumnPlan) {
+    let ColumnPlan {
+        points,
+        columns,
+        ..
+    } = plan;
+    for column in columns.iter() {
+        stack_column(points.as_mut_slice(), column.as_slice());
+    }
+}
+
+fn stack_column(points: &mut [ColumnPoint], column: &[usize]) {
+    let height = column_height(points, column);
+    let mut top = MIDDLE.saturating_sub(height / 2);
+    let mut last = None;
+    for number in column {
+        if let Some(point) = points.get_mut(*number) {
+            top = top.saturating_add(gap_between(last, point.is_pass));
+            last = Some(point.is_pass);
+            point.top = top;
+            top = top.saturating_add(point.height);
+        }
+    }
 }
 
 // Lets the first point stand at 0, and all others as far below it as they did.
@@ -71,17 +97,21 @@ struct Arrangement {
     behind: Vec<Vec<Neighbour>>,
 }
 
+fn no_neighbours(alloc: Global, count: usize) -> Result<Vec<Vec<Neighbour>>, AllocError> {
+    let mut lists = Vec::new(alloc);
+    for _ in 0..count {
+        lists.push(Vec::new(alloc))?;
+    }
+    Ok(lists)
+}
+
 impl Arrangement {
     fn new(alloc: Global, plan: &ColumnPlan) -> Result<Arrangement, AllocError> {
         let mut rows = Arrangement {
             alloc,
-            before: Vec::new(alloc),
-            behind: Vec::new(alloc),
+            before: no_neighbours(alloc, plan.points.len())?,
+            behind: no_neighbours(alloc, plan.points.len())?,
         };
-        for _ in &plan.points {
-            rows.before.push(Vec::new(alloc))?;
-            rows.behind.push(Vec::new(alloc))?;
-        }
         for link in &plan.links {
             rows.add(link)?;
         }
@@ -102,29 +132,6 @@ impl Arrangement {
                 below: link.from_below,
                 own: link.to_below,
             })?;
-        }
-        Ok(())
-    }
-
-    // Lets the points of each column stand below each other, around the middle.
-    fn stack(&self, plan: &mut ColumnPlan) -> Result<(), AllocError> {
-        let ColumnPlan {
-            points,
-            columns,
-            ..
-        } = plan;
-        for column in columns.iter() {
-            let height = column_height(points.as_slice(), column.as_slice());
-            let mut top = MIDDLE.saturating_sub(height / 2);
-            let mut last = None;
-            for number in column {
-                if let Some(point) = points.get_mut(*number) {
-                    top = top.saturating_add(gap_between(last, point.is_pass));
-                    last = Some(point.is_pass);
-                    point.top = top;
-                    top = top.saturating_add(point.height);
-                }
-            }
         }
         Ok(())
     }
@@ -163,21 +170,30 @@ impl Arrangement {
         column: &mut Vec<usize>,
         side: Side,
     ) -> Result<(), AllocError> {
+        let wishes = self.wishes(points, column.as_slice(), side)?;
+        if side != Side::Both {
+            reorder(column.as_mut_slice(), wishes.as_slice());
+        }
+        let tops = self.tops(points, column.as_slice(), wishes.as_slice())?;
+        place_at(points, column.as_slice(), tops.as_slice());
+        Ok(())
+    }
+
+    // Where the points of a column are wished; in the order of that, where neighbours of one side are asked.
+    fn wishes(
+        &self,
+        points: &[ColumnPoint],
+        column: &[usize],
+        side: Side,
+    ) -> Result<Vec<ColumnWish>, AllocError> {
         let mut wishes = Vec::new(self.alloc);
         for (place, number) in column.iter().enumerate() {
             wishes.push(self.wish(points, *number, place, side))?;
         }
         if side != Side::Both {
             wishes.sort()?;
-            reorder(column.as_mut_slice(), wishes.as_slice());
         }
-        let tops = self.tops(points, column.as_slice(), wishes.as_slice())?;
-        for (number, top) in column.iter().zip(&tops) {
-            if let Some(point) = points.get_mut(*number) {
-                point.top = *top;
-            }
-        }
-        Ok(())
+        Ok(wishes)
     }
 
     // Where the neighbours of a point wish its top.
@@ -211,22 +227,44 @@ impl Arrangement {
         column: &[usize],
         wishes: &[ColumnWish],
     ) -> Result<Vec<usize>, AllocError> {
-        let mut below = 0;
-        let mut last = None;
-        let mut pools = Vec::new(self.alloc);
-        let mut offsets = Vec::new(self.alloc);
-        for (number, wish) in column.iter().zip(wishes) {
-            if let Some(point) = points.get(*number) {
-                below = usize::saturating_add(below, gap_between(last, point.is_pass));
-                last = Some(point.is_pass);
-                offsets.push(below)?;
-                pools.push(WishPool::of(wish.top.saturating_sub(below), wish.weight))?;
-                merge_last(&mut pools)?;
-                below = below.saturating_add(point.height);
-            }
-        }
+        let offsets = offsets_of(self.alloc, points, column)?;
+        let pools = pools_of(self.alloc, wishes, offsets.as_slice())?;
         tops_of(self.alloc, pools.as_slice(), offsets.as_slice())
     }
+}
+
+// How far below the first point of a column each point is to stand.
+fn offsets_of(
+    alloc: Global,
+    points: &[ColumnPoint],
+    column: &[usize],
+) -> Result<Vec<usize>, AllocError> {
+    let mut below: usize = 0;
+    let mut last = None;
+    let mut offsets = Vec::new(alloc);
+    for number in column {
+        if let Some(point) = points.get(*number) {
+            below = below.saturating_add(gap_between(last, point.is_pass));
+            last = Some(point.is_pass);
+            offsets.push(below)?;
+            below = below.saturating_add(point.height);
+        }
+    }
+    Ok(offsets)
+}
+
+// The points that stand close together, where each is wished at so much below the first.
+fn pools_of(
+    alloc: Global,
+    wishes: &[ColumnWish],
+    offsets: &[usize],
+) -> Result<Vec<WishPool>, AllocError> {
+    let mut pools = Vec::new(alloc);
+    for (wish, offset) in wishes.iter().zip(offsets) {
+        pools.push(WishPool::of(wish.top.saturating_sub(*offset), wish.weight))?;
+        merge_last(&mut pools)?;
+    }
+    Ok(pools)
 }
 
 // Where a point is wished, before the others of its column.
@@ -266,6 +304,14 @@ fn neighbours(lists: &Vec<Vec<Neighbour>>, number: usize) -> &[Neighbour] {
     match lists.get(number) {
         Some(list) => list.as_slice(),
         None => &[],
+    }
+}
+
+fn place_at(points: &mut [ColumnPoint], column: &[usize], tops: &[usize]) {
+    for (number, top) in column.iter().zip(tops) {
+        if let Some(point) = points.get_mut(*number) {
+            point.top = *top;
+        }
     }
 }
 

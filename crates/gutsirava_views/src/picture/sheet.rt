@@ -1,7 +1,8 @@
 //! The elements of a picture.
 
-ghost use Rattle.std.specs.Prelude.{◌≡◌, ◌++◌, OnOk, string_bytes};
-ghost use Rattle.gutsirava_views.specs.Boxes.{Grows, title_text};
+ghost use Rattle.std.specs.Prelude.{◌≡◌, ◌++◌, OnOk, chars, decimal, flat_map, string_bytes};
+ghost use Rattle.gutsirava_views.specs.Boxes.{label_text, number_behind, path_text, rect_text, title_text};
+ghost use Rattle.gutsirava_views.specs.Xml.{xml_char};
 
 use crate::picture::marking::xml_text;
 use std::alloc::{AllocError, Global};
@@ -58,48 +59,86 @@ impl SvgSheet {
         self.text.push_str(text)
     }
 
+    /// Numbers, each behind a text of its own.
+    pub(crate) fn put(&mut self, pieces: &[(&str, usize)]) -> Result<(), AllocError>
+        ensures { OnOk result (string_bytes self.new.text
+            ≡ string_bytes self.old.text ++ flat_map number_behind pieces.now) }
+    {
+        for (before, number) in pieces {
+            self.put_one(before, *number)?;
+        }
+        Ok(())
+    }
+
+    fn put_one(&mut self, before: &str, number: usize) -> Result<(), AllocError>
+        ensures { OnOk result (string_bytes self.new.text
+            ≡ string_bytes self.old.text ++ (before.now ++ decimal number)) }
+    {
+        let digits = format!(in self.alloc; "{number}")?;
+        self.text.push_str(before)?;
+        self.text.push_str(digits.as_str())
+    }
+
     /// A rectangle of this class, with round corners.
-    #[tactic(auto, using(std::proofs::lemmas::Grind::common_steps, crate::proofs::BoxLemmas::grows_by, crate::proofs::BoxLemmas::grows_again, crate::proofs::BoxLemmas::grows_same))]
     pub(crate) fn rect(
         &mut self,
         class: &str,
         frame: BoxFrame,
         round: usize,
     ) -> Result<(), AllocError>
-        ensures { OnOk result (Grows (string_bytes self.old.text) (string_bytes self.new.text)) }
+        ensures { OnOk result (string_bytes self.new.text
+            ≡ string_bytes self.old.text ++ rect_text class.now frame round) }
     {
-        let BoxFrame {
-            left,
-            top,
-            width,
-            height,
-        } = frame;
-        let rect = format!(in self.alloc;
-            "<rect class=\"{class}\" x=\"{left}\" y=\"{top}\" width=\"{width}\" height=\"{height}\" rx=\"{round}\"/>"
-        )?;
-        self.push(rect.as_str())
+        self.push("<rect class=\"")?;
+        self.push(class)?;
+        self.put(&[
+            ("\" x=\"", frame.left),
+            ("\" y=\"", frame.top),
+            ("\" width=\"", frame.width),
+            ("\" height=\"", frame.height),
+            ("\" rx=\"", round),
+        ])?;
+        self.push("\"/>")
     }
 
     /// A text of this class, whose base line begins there.
-    #[tactic(auto, using(std::proofs::lemmas::Grind::common_steps, crate::proofs::BoxLemmas::grows_by, crate::proofs::BoxLemmas::grows_again, crate::proofs::BoxLemmas::grows_same))]
     pub(crate) fn label(&mut self, class: &str, at: SheetSpot, text: &str) -> Result<(), AllocError>
-        ensures { OnOk result (Grows (string_bytes self.old.text) (string_bytes self.new.text)) }
+        ensures { OnOk result (string_bytes self.new.text
+            ≡ string_bytes self.old.text ++ label_text class.now at text.now) }
     {
-        let SheetSpot { left, top } = at;
-        let shown = xml_text(self.alloc, text)?;
-        let label = format!(in self.alloc;
-            "<text class=\"{class}\" x=\"{left}\" y=\"{top}\">{shown}</text>"
-        )?;
-        self.push(label.as_str())
+        self.push("<text class=\"")?;
+        self.push(class)?;
+        self.put(&[("\" x=\"", at.left), ("\" y=\"", at.top)])?;
+        self.push("\">")?;
+        self.push_marked(text)?;
+        self.push("</text>")
     }
 
-    /// A path of this class.
-    #[tactic(auto, using(std::proofs::lemmas::Grind::common_steps, crate::proofs::BoxLemmas::grows_by, crate::proofs::BoxLemmas::grows_again, crate::proofs::BoxLemmas::grows_same))]
-    pub(crate) fn path(&mut self, class: &str, way: &str) -> Result<(), AllocError>
-        ensures { OnOk result (Grows (string_bytes self.old.text) (string_bytes self.new.text)) }
+    /// A path of this class: numbers, each behind what stands before it, and an end.
+    pub(crate) fn path(
+        &mut self,
+        class: &str,
+        way: &[(&str, usize)],
+        end: &str,
+    ) -> Result<(), AllocError>
+        ensures { OnOk result (string_bytes self.new.text
+            ≡ string_bytes self.old.text ++ path_text class.now way.now end.now) }
     {
-        let path = format!(in self.alloc; "<path class=\"{class}\" d=\"{way}\"/>")?;
-        self.push(path.as_str())
+        self.push("<path class=\"")?;
+        self.push(class)?;
+        self.push("\" d=\"")?;
+        self.put(way)?;
+        self.push(end)?;
+        self.push("\"/>")
+    }
+
+    // A text as the content of an element.
+    fn push_marked(&mut self, text: &str) -> Result<(), AllocError>
+        ensures { OnOk result (string_bytes self.new.text
+            ≡ string_bytes self.old.text ++ flat_map xml_char (chars text.now)) }
+    {
+        let marked = xml_text(self.alloc, text)?;
+        self.push(marked.as_str())
     }
 
     /// The text that is shown where a pointer rests on the group.
@@ -107,8 +146,8 @@ impl SvgSheet {
         ensures { OnOk result (string_bytes self.new.text
             ≡ string_bytes self.old.text ++ title_text text.now) }
     {
-        let shown = xml_text(self.alloc, text)?;
-        let tip = format!(in self.alloc; "<title>{shown}</title>")?;
-        self.push(tip.as_str())
+        self.push("<title>")?;
+        self.push_marked(text)?;
+        self.push("</title>")
     }
 }

@@ -1,7 +1,7 @@
 -- What was told before is told, and the answer is that of the linker.
 use Rattle.std.proofs.Common.{◌≡◌, ap, arith, subst, sym, ◌∙◌}
 use Rattle.gutsirava_bundle.specs.Linking.{IsLinkAnswer}
-use Rattle.gutsirava_bundle.specs.declared.message.Messages.{Messages}
+use Rattle.gutsirava_graph.specs.declared.message.Messages.{Messages}
 use Rattle.gutsirava_bundle.proofs.bundling.bundled_of.Goals as goal
 
 pub returns-clause-grows : goal.returns-clause-grows

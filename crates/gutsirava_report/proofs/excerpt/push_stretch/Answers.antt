@@ -15,3 +15,4 @@ returns c =
     (c.in_ok-marks.ensures
     ∙ ap (λ n. replicate n 32 ++ replicate (max 1 c.columns-width.result) 94) c.columns-indent.ensures
     ∙ ap (λ n. replicate (columns_of c.in_ok-before.before) 32 ++ replicate (max 1 n) 94) c.columns-width.ensures)
+    c.args.stretch.now c.requires c.in_ok-before.ensures c.in_ok-marked.ensures c.in_ok-after.ensures

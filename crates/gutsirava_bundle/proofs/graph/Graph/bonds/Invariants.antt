@@ -1,5 +1,0 @@
-use Rattle.std.proofs.Common.{◌≤◌}
-use Rattle.gutsirava_bundle.proofs.graph.Graph.bonds.Given as goal
-
-abbrev pub invariant-loop-number : goal.invariant-loop-number
-invariant-loop-number g l = l.initial.self.teller.messages.errors ≤ l.self.teller.messages.errors

@@ -1,5 +1,0 @@
-use Rattle.std.proofs.Common.{◌≤◌}
-use Rattle.gutsirava_bundle.proofs.graph.Graph.read_files.Given as goal
-
-abbrev pub invariant-loop-at : goal.invariant-loop-at
-invariant-loop-at g l = l.initial.self.teller.messages.errors ≤ l.self.teller.messages.errors

@@ -1,5 +1,0 @@
-use Rattle.std.proofs.Common.{◌≤◌}
-use Rattle.gutsirava_bundle.proofs.own.read_own.Given as goal
-
-abbrev pub invariant-loop-at : goal.invariant-loop-at
-invariant-loop-at l = l.initial.teller.messages.errors ≤ l.teller.messages.errors

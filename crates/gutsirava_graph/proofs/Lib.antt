@@ -1,0 +1,4 @@
+pub mod CircleLemmas
+pub mod MetLemmas
+pub mod SoFar
+pub mod StarLemmas

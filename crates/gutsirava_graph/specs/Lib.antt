@@ -1,0 +1,5 @@
+pub mod Circle
+pub mod Graph
+pub mod Met
+pub mod Numbers
+pub mod Stars

@@ -1,0 +1,7 @@
+-- By the byte in front.
+use Rattle.std.proofs.Common.{codes}
+use Rattle.std.proofs.lemmas.Str.Pattern.{starts_text}
+use Rattle.gutsirava_words.proofs.word.begins_with_dash.Goals as goal
+
+pub returns : goal.returns
+returns c = starts_text c.starts_with.result (codes "-") c.args.text.now c.starts_with.ensures.cases
