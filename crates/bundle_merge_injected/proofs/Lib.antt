@@ -1,4 +1,5 @@
+mod Grammar
+mod Loads
 mod Nodes
 mod Parts
-mod Built
-mod Loads
+mod Written

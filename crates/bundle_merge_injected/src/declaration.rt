@@ -10,6 +10,7 @@ ghost use Rattle.bundle_tree_places.specs.Marks.{ident_of};
 ghost use Rattle.bundle_merge_injected.specs.Listed as listed;
 ghost use Rattle.bundle_merge_injected.specs.Listed.{pattern_of};
 
+use crate::list::NO_NOTES;
 use crate::name::pattern;
 use bundle_tree_ast::{Decl, ExportMetadata, Expr, Pat, Stmt, VarDecl, VarDeclKind, VarDeclarator};
 use bundle_tree_places::Name;
@@ -57,40 +58,5 @@ pub(crate) fn variable(alloc: Global, decl: VarDeclarator) -> Result<Stmt, Alloc
     ensures { IfOk result (λ made.
         stmt_items 0 made ≡ node 0 (VarDeclHead VarKind no_notes) (var_declarator_items 1 decl)) }
 {
-    let meta = ExportMetadata {
-        injected: false,
-        export_ctxt: None,
-    };
-    declared(alloc, VarDeclKind::Var, decl, meta)
-}
-
-/// `var name;`
-pub(crate) fn bare_variable<'a>(alloc: Global, name: Name<'a>) -> Result<Stmt, AllocError>
-    ensures { IfOk result (λ made. stmt_items 0 made ≡ node 0 (VarDeclHead VarKind no_notes)
-        (node 1 VarDeclaratorHead (pattern_of 0 Binding (ident_of name.entry)))) }
-{
-    let name = pattern(alloc, name)?;
-    let init = None;
-    variable(alloc, VarDeclarator { name, init })
-}
-
-/// `var .., ..;`, with these declarators.
-pub(crate) fn variables(
-    alloc: Global,
-    first: VarDeclarator,
-    second: VarDeclarator,
-) -> Result<Stmt, AllocError>
-    ensures { IfOk result (λ made. stmt_items 0 made ≡ node 0 (VarDeclHead VarKind no_notes)
-        (var_declarator_items 1 first ++ var_declarator_items 1 second)) }
-{
-    let decls = vec![in alloc; first, second]?;
-    let meta = ExportMetadata {
-        injected: false,
-        export_ctxt: None,
-    };
-    Ok(Stmt::Decl(Decl::VarDecl(VarDecl {
-        kind: VarDeclKind::Var,
-        decls,
-        meta,
-    })))
+    declared(alloc, VarDeclKind::Var, decl, NO_NOTES)
 }

@@ -30,15 +30,6 @@ pub(crate) fn function(params: Vec<Param>, stmts: Vec<Stmt>) -> Expr
     }
 }
 
-/// `function () { .. }`, as an expression.
-pub(crate) fn closure(alloc: Global, stmts: Vec<Stmt>) -> Expr
-    ensures { (field : ℕ) → expr_items field result
-        ≡ node field FnExpr (function_in 1 [] (each_stmt_items 0 stmts)) }
-{
-    let params = Vec::new(alloc);
-    function(params, stmts)
-}
-
 /// Parameters of these names.
 #[tactic(auto, using(crate::proofs::Nodes::nodes), unfolding(bundle_tree_listed::specs::Tree::stmt_items))]
 pub(crate) fn parameters<'a>(alloc: Global, names: &[Name<'a>]) -> Result<Vec<Param>, AllocError>

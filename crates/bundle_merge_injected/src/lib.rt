@@ -1,4 +1,5 @@
-//! What a linker adds to the statements of modules, as trees: each form, with the names that it is handed.
+//! What a linker adds to the statements of modules: each form, with the names that it is handed, as a list of pieces
+//! (`list`) and as a tree.
 #![tactic(auto)]
 
 mod call;
@@ -6,6 +7,7 @@ mod common_js;
 mod declaration;
 mod function;
 mod import;
+pub mod list;
 mod name;
 mod object;
 mod row;

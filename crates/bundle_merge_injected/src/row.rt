@@ -7,23 +7,6 @@ ghost use Rattle.bundle_merge_injected.specs.Listed as listed;
 use bundle_tree_ast::{Expr, ExprOrSpread, Stmt};
 use std::alloc::{AllocError, Global};
 
-/// One statement.
-pub(crate) fn one_stmt(alloc: Global, stmt: Stmt) -> Result<Vec<Stmt>, AllocError>
-    ensures { IfOk result (λ made. each_stmt_items 0 made ≡ stmt_items 0 stmt) }
-{
-    let stmts = vec![in alloc; stmt]?;
-    Ok(stmts)
-}
-
-/// Two statements.
-pub(crate) fn two_stmts(alloc: Global, first: Stmt, second: Stmt) -> Result<Vec<Stmt>, AllocError>
-    ensures { IfOk result
-        (λ made. each_stmt_items 0 made ≡ stmt_items 0 first ++ stmt_items 0 second) }
-{
-    let stmts = vec![in alloc; first, second]?;
-    Ok(stmts)
-}
-
 /// These statements, and one behind them.
 pub(crate) fn with_stmt(stmts: Vec<Stmt>, stmt: Stmt) -> Result<Vec<Stmt>, AllocError>
     ensures { IfOk result

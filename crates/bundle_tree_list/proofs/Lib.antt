@@ -1,4 +1,3 @@
-pub mod Steps
 pub mod Agree
 pub mod Cut
 pub mod Leaves

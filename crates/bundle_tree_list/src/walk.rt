@@ -116,12 +116,8 @@ impl<'a> Walk<'a> {
         self.add(Piece::Hole { field })
     }
 
-    pub(crate) fn ident(
-        &mut self,
-        field: u8,
-        role: Role,
-        ident: &'a Ident,
-    ) -> Result<(), AllocError>
+    /// Adds the list of an identifier, in this role. Refused only where memory runs out.
+    pub fn ident(&mut self, field: u8, role: Role, ident: &'a Ident) -> Result<(), AllocError>
         ensures { OnOk result (self.new ≡ self.old ++ ident_items role field ident.now) }
     {
         let sym = ident.sym.as_str();

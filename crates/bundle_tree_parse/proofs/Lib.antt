@@ -3,5 +3,7 @@ pub mod Misplaced
 pub mod Made
 pub mod Whole
 pub mod Rows
+pub mod Sources
 pub mod Trees
 pub mod Lists
+pub mod Places

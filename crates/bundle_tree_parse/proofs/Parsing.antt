@@ -5,7 +5,7 @@ use Rattle.std.proofs.lemmas.Grind.{common_steps}
 use Rattle.std.specs.Prelude.{nat_eq}
 use Rattle.bundle_tree_parse.specs.Built.{Builds, BuildsNode, BuildsLeaf, Leaves}
 use Rattle.bundle_tree_listed.proofs.Rows.{rows}
-use Rattle.bundle_tree_list.proofs.Steps.{steps}
+use Rattle.bundle_tree_listed.proofs.Steps.{steps}
 use Rattle.bundle_syntax.specs.declared.piece.Role.{Role}
 use Rattle.bundle_tree_parse.specs.declared.build.BuildError.{BuildError}
 use Rattle.bundle_tree_parse.specs.declared.build.BuildError.TheVariants.{Form}
@@ -13,6 +13,7 @@ use Rattle.bundle_syntax.specs.Item as h
 use Rattle.bundle_syntax.specs.declared.piece.Piece.{Piece}
 use Rattle.bundle_syntax.specs.Item.{Item, Head, item_of}
 use Rattle.bundle_tree_parse.specs.Sorts.{Sort, Holding, AnIdent, AModuleName, AString, Refused, Fields, holds, name_of}
+use Rattle.bundle_tree_parse.proofs.Whole.{each_ended, each_more}
 use Rattle.bundle_tree_parse.specs.Parse.{Taker, Opening, opened, begins_in, begins_with_ident, after_ident, after_name, after_each, after_close, after_inside, after_node, after_opening, after_one, closed, within, taken, then, is_zero, outwards, is_source, is_end, depth_behind, has_source}
 
 pub within-more : (less room : ℕ) → less + 1 ≡ room → within room ≡ Some (taken less)
@@ -123,13 +124,6 @@ string_place room role field (h.Open at it ∷ rest) e = here (nat_eq at field)
     here false = refl
 
 -- The elements of a loop.
-
-pub each_ended : (one : List Item → Option (List Item)) (field most : ℕ) (list : List Item) → begins_in field list ≡ false → after_each one field most list ≡ Some list
-each_ended one field zero list e = refl
-each_ended one field (suc most) list e = rw e refl
-
-each_more : (one : List Item → Option (List Item)) (field most : ℕ) (list : List Item) → begins_in field list ≡ true → after_each one field (suc most) list ≡ then (after_each one field most) (one list)
-each_more one field most list e = rw e refl
 
 pub each_next : (one : List Item → Option (List Item)) (field most count : ℕ) (list next : List Item) → count < most → begins_in field list ≡ true → one list ≡ Some next → after_each one field (most - count) list ≡ after_each one field (most - (count + 1)) next
 each_next one field most count list next lt e is =

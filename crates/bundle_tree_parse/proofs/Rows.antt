@@ -5,24 +5,8 @@ use Rattle.bundle_syntax.specs.declared.piece.Role.{Role}
 use Rattle.bundle_syntax.specs.declared.piece.Role.TheVariants as r
 use Rattle.bundle_syntax.specs.Item as h
 use Rattle.bundle_syntax.specs.Item.{Item, Head}
-use Rattle.bundle_tree_parse.specs.Sorts.{Sort, AnItem, ADecl, AStmt, AnInit, ALoopHead, AnExpr, ACallee, AnArrowBody, APattern, Count, One, Optional, Many, Places, Slot, slot, Holding, Refused, Fields, Exports, holds, name_of}
-use Rattle.bundle_tree_parse.proofs.Whole.{after, has_number, AreIn, no_more, over, a_name, a_hole, a_node, an_export_list, IsIn, name, node, export_list}
-
--- one or none
-pub data IsMaybe : Sort → ℕ → List Item → Type 0 where
-  none : {sort : Sort} {field : ℕ} → IsMaybe sort field []
-  some : {sort : Sort} {field : ℕ} {items : List Item} → IsIn sort field items → IsMaybe sort field items
-
--- each number
-pub data AreEach : Sort → ℕ → List Item → Type 0 where
-  ended : {sort : Sort} {field : ℕ} → AreEach sort field []
-  next : {sort : Sort} {field : ℕ} {items rest : List Item} → IsIn sort field items → AreEach sort field rest → AreEach sort field (items ++ rest)
-
--- each number, and places that hold nothing
-pub data ArePlaces : Sort → ℕ → List Item → Type 0 where
-  closed : {sort : Sort} {field : ℕ} → ArePlaces sort field []
-  empty : {sort : Sort} {field : ℕ} {rest : List Item} → ArePlaces sort field rest → ArePlaces sort field (h.Hole field ∷ rest)
-  held : {sort : Sort} {field : ℕ} {items rest : List Item} → IsIn sort field items → ArePlaces sort field rest → ArePlaces sort field (items ++ rest)
+use Rattle.bundle_tree_parse.specs.Sorts.{Sort, AnItem, AModuleDecl, ADecl, AStmt, AnInit, ALoopHead, AnExpr, ALiteral, ACallee, AnArrowBody, AProperty, APropertyOrSpread, APattern, Count, One, Optional, Many, Places, Slot, slot, Holding, Refused, Fields, Exports, holds, name_of}
+use Rattle.bundle_tree_parse.specs.Standing.{after, has_number, AreIn, no_more, over, a_name, a_hole, a_node, an_export_list, IsIn, name, node, export_list, IsMaybe, none, some, AreEach, ended, next, ArePlaces, closed, empty, held}
 
 -- what stands in a field, and then what stands in those that are left
 first : {sort : Sort} {field : ℕ} {items : List Item} → IsIn sort field items → (count : Count) (more : List Slot) (rest : List Item) → AreIn (after field count sort more) rest → AreIn (slot field count sort ∷ more) (items ++ rest)
@@ -147,3 +131,40 @@ as_item it = widen AnItem heads (λ role is. absurd (false≢true (none-is is)))
     heads h.ExportDefaultExpr is = absurd (false≢true (sym is))
     heads (h.ExportAll meta) is = absurd (false≢true (sym is))
     heads _ is = refl
+
+pub decl_as_item : {field : ℕ} {items : List Item} → IsIn AModuleDecl field items → IsIn AnItem field items
+decl_as_item it = widen AnItem heads (λ role is. absurd (false≢true (none-is is))) it
+  where
+    none-is : {role : Role} → name_of AModuleDecl ≡ Some role → false ≡ true
+    none-is e = subst (λ (o : Option Role). false ≡ elim o [ None ↦ false | Some _ ↦ true ]) e refl
+
+    heads : (head : Head) → is_refused (holds AModuleDecl head) ≡ false → holds AnItem head ≡ holds AModuleDecl head
+    heads (h.ImportDecl meta) is = refl
+    heads h.ExportDecl is = refl
+    heads (h.NamedExport meta) is = refl
+    heads h.ExportDefaultDecl is = refl
+    heads h.ExportDefaultExpr is = refl
+    heads (h.ExportAll meta) is = refl
+    heads _ is = absurd (false≢true (sym is))
+
+pub as_property_or_spread : {field : ℕ} {items : List Item} → IsIn AProperty field items → IsIn APropertyOrSpread field items
+as_property_or_spread it = widen APropertyOrSpread heads (λ role is. is) it
+  where
+    heads : (head : Head) → is_refused (holds AProperty head) ≡ false → holds APropertyOrSpread head ≡ holds AProperty head
+    heads h.SpreadElement is = absurd (false≢true (sym is))
+    heads _ is = refl
+
+pub literal_as_expr : {field : ℕ} {items : List Item} → IsIn ALiteral field items → IsIn AnExpr field items
+literal_as_expr it = widen AnExpr heads (λ role is. absurd (false≢true (none-is is))) it
+  where
+    none-is : {role : Role} → name_of ALiteral ≡ Some role → false ≡ true
+    none-is e = subst (λ (o : Option Role). false ≡ elim o [ None ↦ false | Some _ ↦ true ]) e refl
+
+    heads : (head : Head) → is_refused (holds ALiteral head) ≡ false → holds AnExpr head ≡ holds ALiteral head
+    heads (h.Str value raw) is = refl
+    heads (h.Bool value) is = refl
+    heads h.Null is = refl
+    heads (h.Number raw) is = refl
+    heads (h.BigInt raw) is = refl
+    heads (h.Regex raw) is = refl
+    heads _ is = absurd (false≢true (sym is))

@@ -1,5 +1,5 @@
 -- In the list of each syntax tree each field holds what may stand there: one clause for each kind of node.
-use Rattle.std.proofs.Common.{◌≡◌, ℕ, zero, suc, ◌+◌, ◌≤◌, length, length-append, ap, arith, true, false, refl, sym, subst, ◌∙◌, List, [], ◌∷◌, ◌++◌, append_assoc, append-nil, Option, Some, None, option_map, string_bytes}
+use Rattle.std.proofs.Common.{◌≡◌, ℕ, true, false, refl, sym, subst, List, [], ◌∷◌, ◌++◌, append-nil, Option, Some, None, option_map, string_bytes}
 use Rattle.std.specs.List.{flat_map}
 use Rattle.bundle_syntax.specs.declared.ident.Ident as v_ident
 use Rattle.bundle_syntax.specs.declared.ident.IdentName as v_ident_name
@@ -43,10 +43,11 @@ use Rattle.bundle_syntax.specs.declared.piece.Role.{Role}
 use Rattle.bundle_syntax.specs.Item as h
 use Rattle.bundle_syntax.specs.Item.{Item}
 use Rattle.bundle_tree_listed.specs.Tree.{ident_items, ident_name_items, private_name_items, binding_ident_items, str_items, lit_items, tpl_element_items, stmt_items, for_init_items, for_head_items, held_option_boxed_stmt, held_option_block_stmt, held_option_catch_clause, held_option_for_init, row_of_stmt, row_of_switch_case, decl_items, row_of_var_declarator, expr_items, arrow_body_items, held_callee, held_opt_chain_base, held_option_expr, held_option_boxed_expr, place_of_expr_or_spread, held_option_each_expr_or_spread, row_of_expr, row_of_expr_or_spread, row_of_option_expr_or_spread, prop_or_spread_items, prop_items, held_prop_name, held_member_prop, held_super_prop, row_of_prop_or_spread, pat_items, object_pat_prop_items, assign_target_items, held_option_pat, place_of_pat, row_of_pat, row_of_option_pat, row_of_object_pat_prop, class_member_items, row_of_param, row_of_class_member, option_items, class_items, function_items, key_value_prop_items, module_export_name_items, import_specifier_items, export_specifier_items, role_of_names, is_given, default_decl_items, module_decl_items, module_item_items, module_items}
-use Rattle.bundle_tree_parse.specs.Sorts.{Sort, Fields, AModule, AnItem, AnImport, AnExport, AModuleName, ADefault, ADecl, AStmt, ABlock, ACase, AHandler, AnInit, ALoopHead, ADeclarator, AnExpr, ACallee, AnArgument, ALink, AnArrowBody, APropertyOrSpread, AKeyValue, AKey, AMemberKey, ASuperKey, APattern, APatternProperty, ABindingIdent, AnIdent, ATarget, AParameter, AFunction, AClass, AClassMember, AWord, AString, ATextPart, holds}
-use Rattle.bundle_tree_parse.specs.Parse.{has_source, taken, then, after_each}
-use Rattle.bundle_tree_parse.proofs.Whole.{AreIn, no_more, IsIn, export_list, whole_node}
-use Rattle.bundle_tree_parse.proofs.Rows.{IsMaybe, none, some, AreEach, ended, next, ArePlaces, closed, empty, held, one, last, maybe, last_maybe, each, last_each, last_places, in_node, in_leaf, alone, as_init, as_callee, as_body, as_pattern, as_loop_head, as_stmt, as_item}
+use Rattle.bundle_tree_parse.specs.Sorts.{Sort, Fields, AModule, AnItem, AModuleDecl, AnImport, AnExport, AModuleName, ADefault, ADecl, AStmt, ABlock, ACase, AHandler, AnInit, ALoopHead, ADeclarator, AnExpr, ALiteral, ACallee, AnArgument, ALink, AnArrowBody, APropertyOrSpread, AProperty, AKeyValue, AKey, AMemberKey, ASuperKey, APattern, APatternProperty, ABindingIdent, AnIdent, ATarget, AParameter, AFunction, AClass, AClassMember, AWord, AString, ATextPart, holds}
+use Rattle.bundle_tree_parse.specs.Parse.{export_slots}
+use Rattle.bundle_tree_parse.specs.Standing.{AreIn, no_more, IsIn, export_list, IsMaybe, none, some, AreEach, ended, next, ArePlaces, closed, empty, held}
+use Rattle.bundle_tree_parse.proofs.Sources.{source_is}
+use Rattle.bundle_tree_parse.proofs.Rows.{one, last, maybe, last_maybe, each, last_each, last_places, in_node, in_leaf, alone, as_init, as_callee, as_body, as_pattern, as_loop_head, as_stmt, as_item, decl_as_item, as_property_or_spread, literal_as_expr}
 
 -- what stands in an option
 option_in : {A : Type 0} {sort : Sort} {field : ℕ} (items : A → List Item) → ((it : A) → IsIn sort field (items it)) → (it : Option A) → IsMaybe sort field (option_items items it)
@@ -54,7 +55,7 @@ option_in items each_one None = none
 option_in items each_one (Some it) = some (each_one it)
 
 -- one after another
-flat_in : {A : Type 0} {sort : Sort} {field : ℕ} (items : A → List Item) → ((it : A) → IsIn sort field (items it)) → (list : List A) → AreEach sort field (flat_map items list)
+pub flat_in : {A : Type 0} {sort : Sort} {field : ℕ} (items : A → List Item) → ((it : A) → IsIn sort field (items it)) → (list : List A) → AreEach sort field (flat_map items list)
 flat_in items each_one [] = ended
 flat_in items each_one (x ∷ xs) = next (each_one x) (flat_in items each_one xs)
 
@@ -64,19 +65,19 @@ local_in field it = alone field _ _ r.Binding refl
 own_in : (field : ℕ) (it : Option v_ident.Ident) → IsMaybe (AnIdent r.Binding) field (option_items (ident_items r.Binding field) it)
 own_in field it = option_in (ident_items r.Binding field) (local_in field) it
 
-word_in : {sort : Sort} (field : ℕ) (it : v_ident_name.IdentName) → holds sort (h.IdentName (string_bytes it.sym)) ≡ Fields [] → IsIn sort field (ident_name_items field it)
+pub word_in : {sort : Sort} (field : ℕ) (it : v_ident_name.IdentName) → holds sort (h.IdentName (string_bytes it.sym)) ≡ Fields [] → IsIn sort field (ident_name_items field it)
 word_in field it held_it = in_leaf field (h.IdentName (string_bytes it.sym)) held_it
 
 label_in : (field : ℕ) (it : v_ident_name.IdentName) → IsIn AWord field (ident_name_items field it)
 label_in field it = word_in field it refl
 
-private_in : {sort : Sort} (field : ℕ) (it : v_private_name.PrivateName) → holds sort (h.PrivateName (string_bytes it.sym)) ≡ Fields [] → IsIn sort field (private_name_items field it)
+pub private_in : {sort : Sort} (field : ℕ) (it : v_private_name.PrivateName) → holds sort (h.PrivateName (string_bytes it.sym)) ≡ Fields [] → IsIn sort field (private_name_items field it)
 private_in field it held_it = in_leaf field (h.PrivateName (string_bytes it.sym)) held_it
 
-bound_name_in : (role : Role) (field : ℕ) (it : v_ident.Ident) → IsIn (AnIdent role) field (ident_items role field it)
+pub bound_name_in : (role : Role) (field : ℕ) (it : v_ident.Ident) → IsIn (AnIdent role) field (ident_items role field it)
 bound_name_in role field it = alone field _ _ role refl
 
-binding_ident_in : (role : Role) (field : ℕ) (it : v_binding_ident.BindingIdent) → IsIn (ABindingIdent role) field (binding_ident_items role field it)
+pub binding_ident_in : (role : Role) (field : ℕ) (it : v_binding_ident.BindingIdent) → IsIn (ABindingIdent role) field (binding_ident_items role field it)
 binding_ident_in role field it = in_node field h.BindingIdent refl (last (bound_name_in role 0 it.id))
 
 pattern_ident_in : (role : Role) (field : ℕ) (it : v_binding_ident.BindingIdent) → IsIn (APattern role) field (binding_ident_items role field it)
@@ -85,13 +86,13 @@ pattern_ident_in role field it = in_node field h.BindingIdent refl (last (bound_
 string_in : {sort : Sort} (field : ℕ) (it : v_str.Str) → ((value : List ℕ) (raw : Option (List ℕ)) → holds sort (h.Str value raw) ≡ Fields []) → IsIn sort field (str_items field it)
 string_in field it held_it = in_leaf field (h.Str (string_bytes it.value) (option_map string_bytes it.raw)) (held_it (string_bytes it.value) (option_map string_bytes it.raw))
 
-source_in : (field : ℕ) (it : v_str.Str) → IsIn AString field (str_items field it)
+pub source_in : (field : ℕ) (it : v_str.Str) → IsIn AString field (str_items field it)
 source_in field it = string_in field it (λ value raw. refl)
 
-tpl_element_in : (field : ℕ) (it : v_tpl_element.TplElement) → IsIn ATextPart field (tpl_element_items field it)
+pub tpl_element_in : (field : ℕ) (it : v_tpl_element.TplElement) → IsIn ATextPart field (tpl_element_items field it)
 tpl_element_in field it = in_leaf field (h.TplElement (string_bytes it.raw)) refl
 
-lit_in : (field : ℕ) (it : v_lit.Lit) → IsIn AnExpr field (lit_items field it)
+pub lit_in : (field : ℕ) (it : v_lit.Lit) → IsIn ALiteral field (lit_items field it)
 lit_in field (i_lit.Str it) = string_in field it (λ value raw. refl)
 lit_in field (i_lit.Bool value) = in_leaf field (h.Bool value) refl
 lit_in field i_lit.Null = in_leaf field h.Null refl
@@ -123,11 +124,11 @@ mutual
   stmt_in field (v_stmt.Decl it) = as_stmt (decl_in field it)
   stmt_in field (v_stmt.ExprStmt expr) = in_node field h.ExprStmt refl (last (expr_in 0 expr))
 
-  init_in : (field : ℕ) (it : v_for_init.ForInit) → IsIn AnInit field (for_init_items field it)
+  pub init_in : (field : ℕ) (it : v_for_init.ForInit) → IsIn AnInit field (for_init_items field it)
   init_in field (v_for_init.VarDecl' kind _ decls meta) = in_node field (h.VarDecl kind meta) refl (last_each (declarators_in 1 decls))
   init_in field (v_for_init.Expr it) = as_init (expr_in field it)
 
-  loop_head_in : (field : ℕ) (it : v_for_head.ForHead) → IsIn ALoopHead field (for_head_items field it)
+  pub loop_head_in : (field : ℕ) (it : v_for_head.ForHead) → IsIn ALoopHead field (for_head_items field it)
   loop_head_in field (v_for_head.VarDecl' kind _ decls meta) = in_node field (h.VarDecl kind meta) refl (last_each (declarators_in 1 decls))
   loop_head_in field (v_for_head.Pat it) = as_loop_head (pat_in r.Reference field it)
 
@@ -147,7 +148,7 @@ mutual
   maybe_init_in field block.Stmt-ForStmt-0-None' = none
   maybe_init_in field (block.Stmt-ForStmt-0-Some' it) = some (init_in field it)
 
-  stmts_in : (field : ℕ) {n : _} (it : block.Row_of-Stmt n) → AreEach AStmt field (row_of_stmt field it)
+  pub stmts_in : (field : ℕ) {n : _} (it : block.Row_of-Stmt n) → AreEach AStmt field (row_of_stmt field it)
   stmts_in field block.end_of-Stmt = ended
   stmts_in field (block.more_of-Stmt it rest) = next (stmt_in field it) (stmts_in field rest)
 
@@ -160,7 +161,7 @@ mutual
   decl_in field (v_decl.FnDecl' ident _ params _ stmts is_generator is_async) = in_node field h.FnDecl refl (one (local_in 0 ident) (last (in_node 1 (h.Function is_generator is_async) refl (each refl (params_in 0 params) (last (in_node 1 h.BlockStmt refl (last_each (stmts_in 0 stmts))))))))
   decl_in field (v_decl.VarDecl' kind _ decls meta) = in_node field (h.VarDecl kind meta) refl (last_each (declarators_in 1 decls))
 
-  declarators_in : (field : ℕ) {n : _} (it : block.Row_of-VarDeclarator n) → AreEach ADeclarator field (row_of_var_declarator field it)
+  pub declarators_in : (field : ℕ) {n : _} (it : block.Row_of-VarDeclarator n) → AreEach ADeclarator field (row_of_var_declarator field it)
   declarators_in field block.end_of-VarDeclarator = ended
   declarators_in field (block.more_of-VarDeclarator name init rest) = next (in_node field h.VarDeclarator refl (one (pat_in r.Binding 0 name) (last_maybe (maybe_expr_in 1 init)))) (declarators_in field rest)
 
@@ -180,7 +181,7 @@ mutual
   expr_in field (v_expr.NewExpr' _ callee args) = new_in field args (expr_in 0 callee)
   expr_in field (v_expr.SeqExpr' _ exprs) = in_node field h.SeqExpr refl (last_each (exprs_in 0 exprs))
   expr_in field (v_expr.Ident it) = alone field _ _ r.Reference refl
-  expr_in field (v_expr.Lit it) = lit_in field it
+  expr_in field (v_expr.Lit it) = literal_as_expr (lit_in field it)
   expr_in field (v_expr.Tpl' _ exprs quasis) = in_node field h.Tpl refl (each refl (exprs_in 0 exprs) (last_each (flat_in (tpl_element_items 1) (tpl_element_in 1) quasis.items)))
   expr_in field (v_expr.TaggedTpl' _ tag _ exprs quasis) = in_node field h.TaggedTpl refl (one (expr_in 0 tag) (last (in_node 1 h.Tpl refl (each refl (exprs_in 0 exprs) (last_each (flat_in (tpl_element_items 1) (tpl_element_in 1) quasis.items))))))
   expr_in field (v_expr.ArrowExpr' _ params body is_async) = in_node field (h.ArrowExpr is_async) refl (each refl (pats_in r.Binding 0 params) (last (arrow_body_in 1 body)))
@@ -197,20 +198,20 @@ mutual
   new_in field block.Expr-NewExpr-1-None' callee = in_node field (h.NewExpr false) refl (one callee no_more)
   new_in field (block.Expr-NewExpr-1-Some' _ row) callee = in_node field (h.NewExpr true) refl (one callee (last_each (arguments_in 1 row)))
 
-  arrow_body_in : (field : ℕ) (it : v_arrow_body.ArrowBody) → IsIn AnArrowBody field (arrow_body_items field it)
+  pub arrow_body_in : (field : ℕ) (it : v_arrow_body.ArrowBody) → IsIn AnArrowBody field (arrow_body_items field it)
   arrow_body_in field (v_arrow_body.BlockStmt' _ stmts) = in_node field h.BlockStmt refl (last_each (stmts_in 0 stmts))
   arrow_body_in field (v_arrow_body.Expr' _ it) = as_body (expr_in field it)
 
-  callee_in : (field : ℕ) (it : block.Held-Expr-CallExpr-0) → IsIn ACallee field (held_callee field it)
+  pub callee_in : (field : ℕ) (it : block.Held-Expr-CallExpr-0) → IsIn ACallee field (held_callee field it)
   callee_in field block.Super' = in_leaf field h.Super refl
   callee_in field block.Import' = in_leaf field h.Import refl
   callee_in field (block.Expr-CallExpr-0-Expr' _ it) = as_callee (expr_in field it)
 
-  link_in : (field : ℕ) (it : block.Held-Expr-OptChainExpr-1) → IsIn ALink field (held_opt_chain_base field it)
+  pub link_in : (field : ℕ) (it : block.Held-Expr-OptChainExpr-1) → IsIn ALink field (held_opt_chain_base field it)
   link_in field (block.Expr-OptChainExpr-1-MemberExpr' _ obj prop) = in_node field h.MemberExpr refl (one (expr_in 0 obj) (last (member_key_in 1 prop)))
   link_in field (block.OptCall' _ callee _ args) = in_node field h.OptCall refl (one (expr_in 0 callee) (last_each (arguments_in 1 args)))
 
-  maybe_expr_in : (field : ℕ) (it : block.Held-ClassMember-ClassProp-1) → IsMaybe AnExpr field (held_option_expr field it)
+  pub maybe_expr_in : (field : ℕ) (it : block.Held-ClassMember-ClassProp-1) → IsMaybe AnExpr field (held_option_expr field it)
   maybe_expr_in field block.ClassMember-ClassProp-1-None' = none
   maybe_expr_in field (block.ClassMember-ClassProp-1-Some' it) = some (expr_in field it)
 
@@ -218,11 +219,11 @@ mutual
   maybe_boxed_expr_in field block.Expr-YieldExpr-0-None' = none
   maybe_boxed_expr_in field (block.Expr-YieldExpr-0-Some' _ it) = some (expr_in field it)
 
-  exprs_in : (field : ℕ) {n : _} (it : block.Row_of-Expr n) → AreEach AnExpr field (row_of_expr field it)
+  pub exprs_in : (field : ℕ) {n : _} (it : block.Row_of-Expr n) → AreEach AnExpr field (row_of_expr field it)
   exprs_in field block.end_of-Expr = ended
   exprs_in field (block.more_of-Expr it rest) = next (expr_in field it) (exprs_in field rest)
 
-  arguments_in : (field : ℕ) {n : _} (it : block.Row_of-Expr-CallExpr-1-2 n) → AreEach AnArgument field (row_of_expr_or_spread field it)
+  pub arguments_in : (field : ℕ) {n : _} (it : block.Row_of-Expr-CallExpr-1-2 n) → AreEach AnArgument field (row_of_expr_or_spread field it)
   arguments_in field block.end_of-Expr-CallExpr-1-2 = ended
   arguments_in field (block.more_of-Expr-CallExpr-1-2 spread expr rest) = next (in_node field (h.ExprOrSpread spread) refl (last (expr_in 1 expr))) (arguments_in field rest)
 
@@ -234,30 +235,30 @@ mutual
   elements_in field block.end_of-Expr-ArrayLit-0-3 = closed
   elements_in field (block.more_of-Expr-ArrayLit-0-3 it rest) = element_in field it (elements_in field rest)
 
-  prop_or_spread_in : (field : ℕ) (it : v_prop_or_spread.PropOrSpread) → IsIn APropertyOrSpread field (prop_or_spread_items field it)
+  pub prop_or_spread_in : (field : ℕ) (it : v_prop_or_spread.PropOrSpread) → IsIn APropertyOrSpread field (prop_or_spread_items field it)
   prop_or_spread_in field (v_prop_or_spread.SpreadElement expr) = in_node field h.SpreadElement refl (last (expr_in 0 expr))
-  prop_or_spread_in field (v_prop_or_spread.Prop it) = prop_in field it
+  prop_or_spread_in field (v_prop_or_spread.Prop it) = as_property_or_spread (prop_in field it)
 
-  prop_in : (field : ℕ) (it : v_prop.Prop) → IsIn APropertyOrSpread field (prop_items field it)
+  pub prop_in : (field : ℕ) (it : v_prop.Prop) → IsIn AProperty field (prop_items field it)
   prop_in field (v_prop.Shorthand it) = alone field _ _ r.Reference refl
   prop_in field (v_prop.KeyValueProp' key value) = in_node field h.KeyValueProp refl (one (key_in 0 key) (last (expr_in 1 value)))
   prop_in field (v_prop.GetterProp' key _ stmts) = in_node field h.GetterProp refl (one (key_in 0 key) (last (in_node 1 h.BlockStmt refl (last_each (stmts_in 0 stmts)))))
   prop_in field (v_prop.SetterProp' key param _ stmts) = in_node field h.SetterProp refl (one (key_in 0 key) (one (pat_in r.Binding 1 param) (last (in_node 2 h.BlockStmt refl (last_each (stmts_in 0 stmts))))))
   prop_in field (v_prop.MethodProp' key _ params _ stmts is_generator is_async) = in_node field h.MethodProp refl (one (key_in 0 key) (last (in_node 1 (h.Function is_generator is_async) refl (each refl (params_in 0 params) (last (in_node 1 h.BlockStmt refl (last_each (stmts_in 0 stmts))))))))
 
-  key_in : (field : ℕ) (it : block.Held-ClassMember-ClassMethod-0) → IsIn AKey field (held_prop_name field it)
+  pub key_in : (field : ℕ) (it : block.Held-ClassMember-ClassMethod-0) → IsIn AKey field (held_prop_name field it)
   key_in field (block.ClassMember-ClassMethod-0-IdentName' it) = word_in field it refl
   key_in field (block.Str' it) = string_in field it (λ value raw. refl)
   key_in field (block.Number' it) = in_leaf field (h.Number (string_bytes it.raw)) refl
   key_in field (block.BigInt' it) = in_leaf field (h.BigInt (string_bytes it.raw)) refl
   key_in field (block.ClassMember-ClassMethod-0-ComputedPropName' _ expr) = in_node field h.ComputedPropName refl (last (expr_in 0 expr))
 
-  member_key_in : (field : ℕ) (it : block.Held-Expr-MemberExpr-0-7) → IsIn AMemberKey field (held_member_prop field it)
+  pub member_key_in : (field : ℕ) (it : block.Held-Expr-MemberExpr-0-7) → IsIn AMemberKey field (held_member_prop field it)
   member_key_in field (block.Expr-MemberExpr-0-7-IdentName' it) = word_in field it refl
   member_key_in field (block.Expr-MemberExpr-0-7-PrivateName' it) = private_in field it refl
   member_key_in field (block.Expr-MemberExpr-0-7-ComputedPropName' _ expr) = in_node field h.ComputedPropName refl (last (expr_in 0 expr))
 
-  super_key_in : (field : ℕ) (it : block.Held-Expr-SuperPropExpr-0-4) → IsIn ASuperKey field (held_super_prop field it)
+  pub super_key_in : (field : ℕ) (it : block.Held-Expr-SuperPropExpr-0-4) → IsIn ASuperKey field (held_super_prop field it)
   super_key_in field (block.Expr-SuperPropExpr-0-4-IdentName' it) = word_in field it refl
   super_key_in field (block.Expr-SuperPropExpr-0-4-ComputedPropName' _ expr) = in_node field h.ComputedPropName refl (last (expr_in 0 expr))
 
@@ -265,7 +266,7 @@ mutual
   props_in field block.end_of-PropOrSpread = ended
   props_in field (block.more_of-PropOrSpread it rest) = next (prop_or_spread_in field it) (props_in field rest)
 
-  pat_in : (role : Role) (field : ℕ) (it : v_pat.Pat) → IsIn (APattern role) field (pat_items role field it)
+  pub pat_in : (role : Role) (field : ℕ) (it : v_pat.Pat) → IsIn (APattern role) field (pat_items role field it)
   pat_in role field (v_pat.BindingIdent it) = pattern_ident_in role field it
   pat_in role field (v_pat.ArrayPat' _ elems) = in_node field h.ArrayPat refl (last_places (pat_places_in role 0 elems))
   pat_in role field (v_pat.RestPat' _ arg) = in_node field h.RestPat refl (last (pat_in role 0 arg))
@@ -273,12 +274,12 @@ mutual
   pat_in role field (v_pat.AssignPat' _ left _ right) = in_node field h.AssignPat refl (one (pat_in role 0 left) (last (expr_in 1 right)))
   pat_in role field (v_pat.Expr' _ it) = as_pattern role (expr_in field it)
 
-  pat_prop_in : (role : Role) (field : ℕ) (it : v_object_pat_prop.ObjectPatProp) → IsIn (APatternProperty role) field (object_pat_prop_items role field it)
+  pub pat_prop_in : (role : Role) (field : ℕ) (it : v_object_pat_prop.ObjectPatProp) → IsIn (APatternProperty role) field (object_pat_prop_items role field it)
   pat_prop_in role field (v_object_pat_prop.KeyValuePatProp' key value) = in_node field h.KeyValuePatProp refl (one (key_in 0 key) (last (pat_in role 1 value)))
   pat_prop_in role field (v_object_pat_prop.AssignPatProp' key value) = in_node field h.AssignPatProp refl (one (binding_ident_in role 0 key) (last_maybe (maybe_expr_in 1 value)))
   pat_prop_in role field (v_object_pat_prop.RestPat' _ arg) = in_node field h.RestPat refl (last (pat_in role 0 arg))
 
-  target_in : (field : ℕ) (it : v_assign_target.AssignTarget) → IsIn ATarget field (assign_target_items field it)
+  pub target_in : (field : ℕ) (it : v_assign_target.AssignTarget) → IsIn ATarget field (assign_target_items field it)
   target_in field (v_assign_target.BindingIdent it) = in_node field h.BindingIdent refl (last (bound_name_in r.Reference 0 it.id))
   target_in field (v_assign_target.MemberExpr' _ obj prop) = in_node field h.MemberExpr refl (one (expr_in 0 obj) (last (member_key_in 1 prop)))
   target_in field (v_assign_target.SuperPropExpr' prop) = in_node field h.SuperPropExpr refl (last (super_key_in 0 prop))
@@ -286,7 +287,7 @@ mutual
   target_in field (v_assign_target.ArrayPat' _ elems) = in_node field h.ArrayPat refl (last_places (pat_places_in r.Reference 0 elems))
   target_in field (v_assign_target.ObjectPat' _ props) = in_node field h.ObjectPat refl (last_each (pat_props_in r.Reference 0 props))
 
-  maybe_pat_in : (role : Role) (field : ℕ) (it : block.Held-AssignTarget-ArrayPat-0-1) → IsMaybe (APattern role) field (held_option_pat role field it)
+  pub maybe_pat_in : (role : Role) (field : ℕ) (it : block.Held-AssignTarget-ArrayPat-0-1) → IsMaybe (APattern role) field (held_option_pat role field it)
   maybe_pat_in role field block.AssignTarget-ArrayPat-0-1-None' = none
   maybe_pat_in role field (block.AssignTarget-ArrayPat-0-1-Some' it) = some (pat_in role field it)
 
@@ -298,15 +299,15 @@ mutual
   pats_in role field block.end_of-Pat = ended
   pats_in role field (block.more_of-Pat it rest) = next (pat_in role field it) (pats_in role field rest)
 
-  pat_places_in : (role : Role) (field : ℕ) {n : _} (it : block.Row_of-AssignTarget-ArrayPat-0-1 n) → ArePlaces (APattern role) field (row_of_option_pat role field it)
+  pub pat_places_in : (role : Role) (field : ℕ) {n : _} (it : block.Row_of-AssignTarget-ArrayPat-0-1 n) → ArePlaces (APattern role) field (row_of_option_pat role field it)
   pat_places_in role field block.end_of-AssignTarget-ArrayPat-0-1 = closed
   pat_places_in role field (block.more_of-AssignTarget-ArrayPat-0-1 it rest) = pat_place_in role field it (pat_places_in role field rest)
 
-  pat_props_in : (role : Role) (field : ℕ) {n : _} (it : block.Row_of-ObjectPatProp n) → AreEach (APatternProperty role) field (row_of_object_pat_prop role field it)
+  pub pat_props_in : (role : Role) (field : ℕ) {n : _} (it : block.Row_of-ObjectPatProp n) → AreEach (APatternProperty role) field (row_of_object_pat_prop role field it)
   pat_props_in role field block.end_of-ObjectPatProp = ended
   pat_props_in role field (block.more_of-ObjectPatProp it rest) = next (pat_prop_in role field it) (pat_props_in role field rest)
 
-  member_in : (field : ℕ) (it : v_class_member.ClassMember) → IsIn AClassMember field (class_member_items field it)
+  pub member_in : (field : ℕ) (it : v_class_member.ClassMember) → IsIn AClassMember field (class_member_items field it)
   member_in field (v_class_member.Constructor' _ params _ stmts) = in_node field h.Constructor refl (each refl (params_in 0 params) (last (in_node 1 h.BlockStmt refl (last_each (stmts_in 0 stmts)))))
   member_in field (v_class_member.ClassMethod' key _ params _ stmts is_generator is_async kind is_static) = in_node field (h.ClassMethod kind is_static) refl (one (key_in 0 key) (last (in_node 1 (h.Function is_generator is_async) refl (each refl (params_in 0 params) (last (in_node 1 h.BlockStmt refl (last_each (stmts_in 0 stmts))))))))
   member_in field (v_class_member.PrivateMethod' key _ params _ stmts is_generator is_async kind is_static) = in_node field (h.PrivateMethod kind is_static) refl (one (private_in 0 key refl) (last (in_node 1 (h.Function is_generator is_async) refl (each refl (params_in 0 params) (last (in_node 1 h.BlockStmt refl (last_each (stmts_in 0 stmts))))))))
@@ -334,25 +335,28 @@ function_in field it = in_node field (h.Function it.is_generator it.is_async) re
 pub key_value_prop_in : (field : ℕ) (it : v_key_value_prop.KeyValueProp v_expr.Expr) → IsIn AKeyValue field (key_value_prop_items field it)
 key_value_prop_in field it = in_node field h.KeyValueProp refl (one (key_in 0 (block.back-ClassMember-ClassMethod-0 it.key)) (last (expr_in 1 it.value)))
 
+pub properties_in : (field : ℕ) (list : List (v_key_value_prop.KeyValueProp v_expr.Expr)) → AreEach AKeyValue field (flat_map (key_value_prop_items field) list)
+properties_in field list = flat_in (key_value_prop_items field) (key_value_prop_in field) list
+
 -- Modules, imports and exports.
 
 outer_in : (field : ℕ) (it : v_module_export_name.ModuleExportName) → IsIn (AModuleName r.Word) field (module_export_name_items r.Word field it)
 outer_in field (i_module_export_name.Ident it) = alone field _ _ r.Word refl
 outer_in field (i_module_export_name.Str it) = string_in field it (λ value raw. refl)
 
-inner_in : (role : Role) (field : ℕ) (it : v_module_export_name.ModuleExportName) → IsIn (AModuleName role) field (module_export_name_items role field it)
+pub inner_in : (role : Role) (field : ℕ) (it : v_module_export_name.ModuleExportName) → IsIn (AModuleName role) field (module_export_name_items role field it)
 inner_in role field (i_module_export_name.Ident it) = alone field _ _ role refl
 inner_in role field (i_module_export_name.Str it) = string_in field it (λ value raw. refl)
 
 other_in : (it : Option v_module_export_name.ModuleExportName) → IsMaybe (AModuleName r.Word) 1 (option_items (module_export_name_items r.Word 1) it)
 other_in it = option_in (module_export_name_items r.Word 1) (outer_in 1) it
 
-import_in : (field : ℕ) (it : v_import_specifier.ImportSpecifier) → IsIn AnImport field (import_specifier_items field it)
+pub import_in : (field : ℕ) (it : v_import_specifier.ImportSpecifier) → IsIn AnImport field (import_specifier_items field it)
 import_in field (i_import_specifier.ImportNamedSpecifier local imported) = in_node field h.ImportNamedSpecifier refl (one (local_in 0 local) (last_maybe (other_in imported)))
 import_in field (i_import_specifier.ImportDefaultSpecifier local) = in_node field h.ImportDefaultSpecifier refl (last (local_in 0 local))
 import_in field (i_import_specifier.ImportStarAsSpecifier local) = in_node field h.ImportStarAsSpecifier refl (last (local_in 0 local))
 
-export_in : (role : Role) (field : ℕ) (it : v_export_specifier.ExportSpecifier) → IsIn (AnExport role) field (export_specifier_items role field it)
+pub export_in : (role : Role) (field : ℕ) (it : v_export_specifier.ExportSpecifier) → IsIn (AnExport role) field (export_specifier_items role field it)
 export_in role field (i_export_specifier.ExportNamespaceSpecifier name) = in_node field h.ExportNamespaceSpecifier refl (last (outer_in 0 name))
 export_in role field (i_export_specifier.ExportNamedSpecifier orig exported) = in_node field h.ExportNamedSpecifier refl (one (inner_in role 0 orig) (last_maybe (other_in exported)))
 
@@ -360,41 +364,16 @@ pub default_in : (field : ℕ) (it : v_default_decl.DefaultDecl) → IsIn ADefau
 default_in field (i_default_decl.ClassExpr name class) = in_node field h.ClassExpr refl (maybe refl (own_in 0 name) (last (class_in 1 class)))
 default_in field (i_default_decl.FnExpr name function) = in_node field h.FnExpr refl (maybe refl (own_in 0 name) (last (function_in 1 function)))
 
--- A specifier of an export list has no source in it: its depth is what it was before.
-
-has_in_name : (role : Role) (field depth : ℕ) (it : v_module_export_name.ModuleExportName) (rest : List Item) → has_source (suc depth) (module_export_name_items role field it ++ rest) ≡ has_source (suc depth) rest
-has_in_name role field depth (i_module_export_name.Ident it) rest = refl
-has_in_name role field depth (i_module_export_name.Str it) rest = refl
-
-has_in_other : (depth : ℕ) (it : Option v_module_export_name.ModuleExportName) (rest : List Item) → has_source (suc depth) (option_items (module_export_name_items r.Word 1) it ++ rest) ≡ has_source (suc depth) rest
-has_in_other depth None rest = refl
-has_in_other depth (Some it) rest = has_in_name r.Word 1 depth it rest
-
-has_in_specifier : (role : Role) (it : v_export_specifier.ExportSpecifier) (rest : List Item) → has_source zero (export_specifier_items role 0 it ++ rest) ≡ has_source zero rest
-has_in_specifier role (i_export_specifier.ExportNamespaceSpecifier name) rest =
-    subst (λ list. has_source 1 list ≡ has_source zero rest) (sym (append_assoc (module_export_name_items r.Word 0 name) (h.Close ∷ []) rest)) (has_in_name r.Word 0 0 name (h.Close ∷ rest))
-has_in_specifier role (i_export_specifier.ExportNamedSpecifier orig exported) rest =
-    subst (λ list. has_source 1 list ≡ has_source zero rest) (sym (append_assoc (module_export_name_items role 0 orig ++ option_items (module_export_name_items r.Word 1) exported) (h.Close ∷ []) rest))
-    (subst (λ list. has_source 1 list ≡ has_source zero rest) (sym (append_assoc (module_export_name_items role 0 orig) (option_items (module_export_name_items r.Word 1) exported) (h.Close ∷ rest)))
-    (has_in_name role 0 0 orig (option_items (module_export_name_items r.Word 1) exported ++ h.Close ∷ rest) ∙ has_in_other 0 exported (h.Close ∷ rest)))
-
-has_in_specifiers : (role : Role) (list : List v_export_specifier.ExportSpecifier) (rest : List Item) → has_source zero (flat_map (export_specifier_items role 0) list ++ rest) ≡ has_source zero rest
-has_in_specifiers role [] rest = refl
-has_in_specifiers role (it ∷ list) rest =
-    subst (λ all. has_source zero all ≡ has_source zero rest) (sym (append_assoc (export_specifier_items role 0 it) (flat_map (export_specifier_items role 0) list) rest))
-    (has_in_specifier role it (flat_map (export_specifier_items role 0) list ++ rest) ∙ has_in_specifiers role list rest)
-
-exports_in : (field : ℕ) (specifiers : List v_export_specifier.ExportSpecifier) (src : Option v_str.Str) (meta : _) → IsIn AnItem field (h.Open field (h.NamedExport meta) ∷ ((flat_map (export_specifier_items (role_of_names src) 0) specifiers ++ option_items (str_items 1) src) ++ h.Close ∷ []))
+-- an export list, by the fields of its names and its source
+exports_in : (field : ℕ) (specifiers : List v_export_specifier.ExportSpecifier) (src : Option v_str.Str) (meta : _) → IsIn AModuleDecl field (h.Open field (h.NamedExport meta) ∷ ((flat_map (export_specifier_items (role_of_names src) 0) specifiers ++ option_items (str_items 1) src) ++ h.Close ∷ []))
 exports_in field specifiers None meta =
-    export_list refl
-    (λ behind. subst (λ list. has_source zero list ≡ false) (sym (append_assoc (flat_map (export_specifier_items r.Reference 0) specifiers) [] (h.Close ∷ behind))) (has_in_specifiers r.Reference specifiers (h.Close ∷ behind)))
-    (subst (AreIn _) (sym (append-nil (flat_map (export_specifier_items r.Reference 0) specifiers))) (last_each (flat_in (export_specifier_items r.Reference 0) (export_in r.Reference 0) specifiers)))
+    let them : AreIn (export_slots false) (flat_map (export_specifier_items r.Reference 0) specifiers ++ []) = subst (AreIn _) (sym (append-nil (flat_map (export_specifier_items r.Reference 0) specifiers))) (last_each (flat_in (export_specifier_items r.Reference 0) (export_in r.Reference 0) specifiers)) in
+    export_list {source = false} refl (source_is false them) them
 exports_in field specifiers (Some src) meta =
-    export_list refl
-    (λ behind. subst (λ list. has_source zero list ≡ true) (sym (append_assoc (flat_map (export_specifier_items r.Word 0) specifiers) (str_items 1 src) (h.Close ∷ behind))) (has_in_specifiers r.Word specifiers (str_items 1 src ++ h.Close ∷ behind)))
-    (each refl (flat_in (export_specifier_items r.Word 0) (export_in r.Word 0) specifiers) (last (source_in 1 src)))
+    let them : AreIn (export_slots true) (flat_map (export_specifier_items r.Word 0) specifiers ++ str_items 1 src) = each refl (flat_in (export_specifier_items r.Word 0) (export_in r.Word 0) specifiers) (last (source_in 1 src)) in
+    export_list {source = true} refl (source_is true them) them
 
-module_decl_in : (field : ℕ) (it : v_module_decl.ModuleDecl) → IsIn AnItem field (module_decl_items field it)
+pub module_decl_in : (field : ℕ) (it : v_module_decl.ModuleDecl) → IsIn AModuleDecl field (module_decl_items field it)
 module_decl_in field (i_module_decl.ImportDecl specifiers src meta) = in_node field (h.ImportDecl meta) refl (each refl (flat_in (import_specifier_items 0) (import_in 0) specifiers.items) (last (source_in 1 src)))
 module_decl_in field (i_module_decl.ExportDecl decl) = in_node field h.ExportDecl refl (last (decl_in 0 decl))
 module_decl_in field (i_module_decl.NamedExport specifiers src meta) = exports_in field specifiers.items src meta
@@ -403,7 +382,7 @@ module_decl_in field (i_module_decl.ExportDefaultExpr expr) = in_node field h.Ex
 module_decl_in field (i_module_decl.ExportAll src meta) = in_node field (h.ExportAll meta) refl (last (source_in 0 src))
 
 pub module_item_in : (field : ℕ) (it : v_module_item.ModuleItem) → IsIn AnItem field (module_item_items field it)
-module_item_in field (i_module_item.ModuleDecl it) = module_decl_in field it
+module_item_in field (i_module_item.ModuleDecl it) = decl_as_item (module_decl_in field it)
 module_item_in field (i_module_item.Stmt it) = as_item (stmt_in field it)
 
 pub items_in : (field : ℕ) (list : List v_module_item.ModuleItem) → AreEach AnItem field (flat_map (module_item_items field) list)
@@ -411,17 +390,3 @@ items_in field list = flat_in (module_item_items field) (module_item_in field) l
 
 pub module_in : (field : ℕ) (it : v_module.Module) → IsIn AModule field (module_items field it)
 module_in field it = in_node field h.Module refl (last_each (items_in 0 it.body.items))
-
--- What is made of a list: all of it is taken.
-
-pub module_taken : (it : v_module.Module) (room : ℕ) → length (module_items 0 it) ≤ room → taken room AModule 0 (module_items 0 it) ≡ Some []
-module_taken it room fits = subst (λ list. taken room AModule 0 list ≡ Some []) (append-nil (module_items 0 it)) (whole_node (module_in 0 it) room [] fits)
-
-pub properties_taken : (list : List (v_key_value_prop.KeyValueProp v_expr.Expr)) (room most : ℕ) → length (flat_map (key_value_prop_items 0) list) ≤ room → length (flat_map (key_value_prop_items 0) list) ≤ most → after_each (taken room AKeyValue 0) 0 most (flat_map (key_value_prop_items 0) list) ≡ Some []
-properties_taken [] room zero fits few = refl
-properties_taken [] room (suc most) fits few = refl
-properties_taken (it ∷ list) room zero fits few = absurd (omega (arith, few))
-properties_taken (it ∷ list) room (suc most) fits few =
-    let sizes : length (key_value_prop_items 0 it ++ flat_map (key_value_prop_items 0) list) ≡ length (key_value_prop_items 0 it) + length (flat_map (key_value_prop_items 0) list) = length-append (key_value_prop_items 0 it) (flat_map (key_value_prop_items 0) list) in
-    ap (then (after_each (taken room AKeyValue 0) 0 most)) (whole_node (key_value_prop_in 0 it) room (flat_map (key_value_prop_items 0) list) (omega (arith, fits, sizes)))
-    ∙ properties_taken list room most (omega (arith, fits, sizes)) (omega (arith, few, sizes))

@@ -8,39 +8,8 @@ use Rattle.bundle_syntax.specs.declared.piece.Role.TheVariants as r
 use Rattle.bundle_syntax.specs.Item as h
 use Rattle.bundle_syntax.specs.Item.{Item, Head}
 use Rattle.bundle_tree_parse.specs.Sorts.{Sort, Count, One, Optional, Many, Places, Slot, slot, Fields, Exports, holds, name_of}
+use Rattle.bundle_tree_parse.specs.Standing.{is_needed, after, has_number, AreIn, no_more, over, a_name, a_hole, a_node, an_export_list, IsIn, name, node, export_list, AreEach, ended, next}
 use Rattle.bundle_tree_parse.specs.Parse.{Taker, begins_in, begins_with_hole, same_role, after_name, after_maybe, after_each, after_place, after_slots, after_node, after_one, closed, then, within, taken, has_source, export_slots}
-
--- whether something has to stand in a field
-abbrev pub is_needed : Count → Bool
-is_needed One = true
-is_needed _ = false
-
--- the fields that are left once a node or a name stands in the first
-abbrev pub after : ℕ → Count → Sort → List Slot → List Slot
-after number One sort more = more
-after number Optional sort more = more
-after number Many sort more = slot number Many sort ∷ more
-after number Places sort more = slot number Places sort ∷ more
-
--- whether one of these fields has the number
-abbrev pub has_number : ℕ → List Slot → Bool
-has_number number [] = false
-has_number number (slot at count sort ∷ more) = nat_eq at number || has_number number more
-
--- what stands in these fields, from the first on
-pub data AreIn : List Slot → List Item → Type 0 where
-  no_more : AreIn [] []
-  over : {number : ℕ} {count : Count} {sort : Sort} {more : List Slot} {items : List Item} → is_needed count ≡ false → has_number number more ≡ false → AreIn more items → AreIn (slot number count sort ∷ more) items
-  a_name : {number : ℕ} {count : Count} {sort : Sort} {more : List Slot} {x : List ℕ} {ctxt : ℕ} {role : Role} {rest : List Item} → name_of sort ≡ Some role → AreIn (after number count sort more) rest → AreIn (slot number count sort ∷ more) (h.Ident number x ctxt role ∷ rest)
-  a_hole : {number : ℕ} {sort : Sort} {more : List Slot} {rest : List Item} → AreIn (slot number Places sort ∷ more) rest → AreIn (slot number Places sort ∷ more) (h.Hole number ∷ rest)
-  a_node : {number : ℕ} {count : Count} {sort : Sort} {more all : List Slot} {head : Head} {inside rest : List Item} → holds sort head ≡ Fields all → AreIn all inside → AreIn (after number count sort more) rest → AreIn (slot number count sort ∷ more) (h.Open number head ∷ (inside ++ h.Close ∷ rest))
-  an_export_list : {number : ℕ} {count : Count} {sort : Sort} {more : List Slot} {head : Head} {source : Bool} {inside rest : List Item} → holds sort head ≡ Exports → ((behind : List Item) → has_source zero (inside ++ h.Close ∷ behind) ≡ source) → AreIn (export_slots source) inside → AreIn (after number count sort more) rest → AreIn (slot number count sort ∷ more) (h.Open number head ∷ (inside ++ h.Close ∷ rest))
-
--- one name or one node, in the field of that number, where that sort is
-pub data IsIn : Sort → ℕ → List Item → Type 0 where
-  name : {sort : Sort} {field : ℕ} {x : List ℕ} {ctxt : ℕ} {role : Role} → name_of sort ≡ Some role → IsIn sort field (h.Ident field x ctxt role ∷ [])
-  node : {sort : Sort} {field : ℕ} {head : Head} {all : List Slot} {inside : List Item} → holds sort head ≡ Fields all → AreIn all inside → IsIn sort field (h.Open field head ∷ (inside ++ h.Close ∷ []))
-  export_list : {sort : Sort} {field : ℕ} {head : Head} {source : Bool} {inside : List Item} → holds sort head ≡ Exports → ((behind : List Item) → has_source zero (inside ++ h.Close ∷ behind) ≡ source) → AreIn (export_slots source) inside → IsIn sort field (h.Open field head ∷ (inside ++ h.Close ∷ []))
 
 -- Small facts.
 
@@ -64,11 +33,11 @@ right_of : (a b : Bool) → a || b ≡ false → b ≡ false
 right_of false b e = e
 right_of true b e = absurd (false≢true (sym e))
 
-each_ended : (one : List Item → Option (List Item)) (field most : ℕ) (list : List Item) → begins_in field list ≡ false → after_each one field most list ≡ Some list
+pub each_ended : (one : List Item → Option (List Item)) (field most : ℕ) (list : List Item) → begins_in field list ≡ false → after_each one field most list ≡ Some list
 each_ended one field zero list e = refl
 each_ended one field (suc most) list e = rw e refl
 
-each_more : (one : List Item → Option (List Item)) (field most : ℕ) (list : List Item) → begins_in field list ≡ true → after_each one field (suc most) list ≡ then (after_each one field most) (one list)
+pub each_more : (one : List Item → Option (List Item)) (field most : ℕ) (list : List Item) → begins_in field list ≡ true → after_each one field (suc most) list ≡ then (after_each one field most) (one list)
 each_more one field most list e = rw e refl
 
 -- where a list of fields begins
@@ -100,13 +69,13 @@ all_most taker (slot field Many sort ∷ more) list = refl
 all_most taker (slot field Places sort ∷ more) list = refl
 
 -- one more stands in the first field
-step : (taker : Taker) (field : ℕ) (count : Count) (sort : Sort) (more : List Slot) (list next end : List Item) (least most : ℕ) → taker sort field list ≡ Some next → begins_in field list ≡ true → begins_with_hole list ≡ false → least ≤ most → least ≤ length next → ((many : ℕ) → least ≤ many → after_most many taker (after field count sort more) next ≡ Some end) → after_most (suc most) taker (slot field count sort ∷ more) list ≡ Some end
+step : (taker : Taker) (field : ℕ) (count : Count) (sort : Sort) (more : List Slot) (list behind end : List Item) (least most : ℕ) → taker sort field list ≡ Some behind → begins_in field list ≡ true → begins_with_hole list ≡ false → least ≤ most → least ≤ length behind → ((many : ℕ) → least ≤ many → after_most many taker (after field count sort more) behind ≡ Some end) → after_most (suc most) taker (slot field count sort ∷ more) list ≡ Some end
 unfolding after_most after_first
-step taker field One sort more list next end least most e begins hole le fits goes = ap (then (after_slots taker more)) e ∙ (all_most taker more next ∙ goes (length next) fits)
-step taker field Optional sort more list next end least most e begins hole le fits goes = rw (begins, e) (all_most taker more next ∙ goes (length next) fits)
-step taker field Many sort more list next end least most e begins hole le fits goes = ap (then (after_slots taker more)) (each_more (taker sort field) field most list begins ∙ ap (then (after_each (taker sort field) field most)) e) ∙ goes most le
-step taker field Places sort more list next end least most e begins hole le fits goes =
-    let placed : after_place (taker sort field) field list ≡ Some next = rw hole e in
+step taker field One sort more list behind end least most e begins hole le fits goes = ap (then (after_slots taker more)) e ∙ (all_most taker more behind ∙ goes (length behind) fits)
+step taker field Optional sort more list behind end least most e begins hole le fits goes = rw (begins, e) (all_most taker more behind ∙ goes (length behind) fits)
+step taker field Many sort more list behind end least most e begins hole le fits goes = ap (then (after_slots taker more)) (each_more (taker sort field) field most list begins ∙ ap (then (after_each (taker sort field) field most)) e) ∙ goes most le
+step taker field Places sort more list behind end least most e begins hole le fits goes =
+    let placed : after_place (taker sort field) field list ≡ Some behind = rw hole e in
     ap (then (after_slots taker more)) (each_more (after_place (taker sort field) field) field most list begins ∙ ap (then (after_each (after_place (taker sort field) field) field most)) placed) ∙ goes most le
 
 -- nothing stands in the first field
@@ -180,3 +149,26 @@ whole_node {sort} {field} (export_list {head = head} {source = source} {inside =
     let sizes : length (inside ++ h.Close ∷ []) ≡ length inside + 1 = length-append inside (h.Close ∷ []) in
     subst (λ list. taken (suc room) sort field (h.Open field head ∷ list) ≡ Some rest) (sym (append_assoc inside (h.Close ∷ []) rest))
     (list_taken room sort field head source (inside ++ h.Close ∷ rest) rest is (has rest) (all_most (taken room) (export_slots source) (inside ++ h.Close ∷ rest) ∙ whole in_it room (length (inside ++ h.Close ∷ rest)) rest (omega (arith, fits, sizes)) (rw length-append (omega arith))))
+
+-- a name or a node begins in its field, and is not nothing
+begins : {sort : Sort} {field : ℕ} {items : List Item} → IsIn sort field items → (rest : List Item) → begins_in field (items ++ rest) ≡ true
+begins {field = f} (name is) rest = same_number f
+begins {field = f} (node is in_it) rest = same_number f
+begins {field = f} (export_list is has in_it) rest = same_number f
+
+takes_room : {sort : Sort} {field : ℕ} {items : List Item} → IsIn sort field items → 1 ≤ length items
+takes_room (name is) = omega arith
+takes_room (node is in_it) = omega arith
+takes_room (export_list is has in_it) = omega arith
+
+-- all that may stand one after the other in a field is taken there
+pub whole_row : {sort : Sort} {field : ℕ} {items : List Item} → AreEach sort field items → (room most : ℕ) → length items ≤ room → length items ≤ most → after_each (taken room sort field) field most items ≡ Some []
+whole_row ended room zero fits few = refl
+whole_row ended room (suc most) fits few = refl
+whole_row (next {items = items} {rest = rest} one more) room zero fits few = absurd (omega (arith, few, takes_room one, length-append items rest))
+whole_row (next {sort = s} {field = f} {items = items} {rest = rest} one more) room (suc most) fits few =
+    let sizes : length (items ++ rest) ≡ length items + length rest = length-append items rest in
+    let some : 1 ≤ length items = takes_room one in
+    each_more (taken room s f) f most (items ++ rest) (begins one rest)
+    ∙ (ap (then (after_each (taken room s f) f most)) (whole_node one room rest (omega (arith, fits, sizes)))
+    ∙ whole_row more room most (omega (arith, fits, sizes)) (omega (arith, few, sizes, some)))

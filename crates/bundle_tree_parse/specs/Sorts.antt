@@ -126,6 +126,7 @@ name_of ACallee = Some r.Reference
 name_of AnArrowBody = Some r.Reference
 name_of (APattern names) = Some r.Reference
 name_of APropertyOrSpread = Some r.Reference
+name_of AProperty = Some r.Reference
 name_of _ = None
 
 -- Which nodes stand where.

@@ -2,16 +2,12 @@
 
 ghost use Rattle.std.specs.Prelude.{◌≡◌, ◌+◌, ◌∷◌, [], map, length, Option, Some, None, Ok, Err, ◌↔◌, MatchResult, IfOk, IfErr, IsTrue, OnErr};
 ghost use Rattle.bundle_syntax.specs.Item.{head_of, item_of, Close, Hole, Ident, Open};
-ghost use Rattle.std.specs.List.{flat_map};
-ghost use Rattle.bundle_tree_listed.specs.Tree.{key_value_prop_items, module_items};
 ghost use Rattle.bundle_tree_parse.specs.declared.build.BuildError.TheVariants.{Form};
-ghost use Rattle.bundle_tree_parse.specs.Refused.{IsListOfNoModule, IsListOfNoProperties};
 ghost use Rattle.bundle_tree_parse.specs.Sorts.{Sort, holds, name_of};
 ghost use Rattle.bundle_tree_parse.specs.Built.{Leaves};
 ghost use Rattle.bundle_tree_parse.specs.Parse.{after_close, after_inside, after_name, closed, after_hole, after_ident, begins_in, begins_with_hole, begins_with_ident, opened, taken, within};
 
 use bundle_syntax::{Node, Piece, Role};
-use bundle_tree_ast::{KeyValueProp, Module};
 use std::alloc::{AllocError, AllocFailed, Global};
 use std::fmt;
 use std::marker::Model;
@@ -65,46 +61,10 @@ impl<T: Drop> From<AllocFailed<T>> for BuildError {
     }
 }
 
-/// The module whose list this is. Refused where it is the list of no module, and for memory.
-#[tactic(auto, using(crate::proofs::Lists::lists))]
-pub fn module_of<'a>(alloc: Global, pieces: &[Piece<'a>]) -> Result<Module, BuildError>
-    ensures made { IfOk result (λ it. module_items 0 it ≡ map item_of pieces.now) }
-    ensures refused { IfErr result (λ why. why ≡ Form → IsListOfNoModule (map item_of pieces.now)) }
-{
-    let mut builder = Builder { alloc, pieces };
-    let module = builder.module(pieces.len())?;
-    if builder.is_over() {
-        Ok(module)
-    } else {
-        Err(BuildError::Form)
-    }
-}
-
-/// The properties whose lists stand here one after the other, each in field 0. Refused where it is not so,
-/// and for memory.
-#[tactic(auto, using(crate::proofs::Lists::lists))]
-pub fn properties_of<'a>(
-    alloc: Global,
-    pieces: &[Piece<'a>],
-) -> Result<Vec<KeyValueProp>, BuildError>
-    ensures made { IfOk result (λ list.
-        flat_map (key_value_prop_items 0) list.items ≡ map item_of pieces.now) }
-    ensures refused { IfErr result (λ why.
-        why ≡ Form → IsListOfNoProperties (map item_of pieces.now)) }
-{
-    let mut builder = Builder { alloc, pieces };
-    let properties = builder.each_key_value_prop(pieces.len(), 0)?;
-    if builder.is_over() {
-        Ok(properties)
-    } else {
-        Err(BuildError::Form)
-    }
-}
-
-/// What is left of a list. Each method takes the pieces of one child; `field` is the number of the child's field
+/// What is left of a list from which a tree is made. Each method takes the pieces of one child; `field` is the number of the child's field
 /// in the node around it, and `room` how many more nodes may be open at once. Clauses see the items that are left.
 #[derive(Drop)]
-pub(crate) struct Builder<'p, 'a> {
+pub struct Builder<'p, 'a> {
     pub(crate) alloc: Global,
     pub(crate) pieces: &'p [Piece<'a>],
 }
@@ -275,8 +235,8 @@ impl<'p, 'a> Builder<'p, 'a> {
         self.pieces.len()
     }
 
-    // Whether nothing is left.
-    fn is_over(&self) -> bool
+    /// Whether nothing is left.
+    pub(crate) fn is_over(&self) -> bool
         ensures { IsTrue result ↔ (self.now ≡ []) }
     {
         self.pieces.is_empty()

@@ -71,7 +71,7 @@ impl<'p, 'a> Builder<'p, 'a> {
 
     #[cycle(build)]
     #[tactic(auto, using(crate::proofs::Parsing::building))]
-    fn param(&mut self, room: usize, field: u8) -> Result<Param, BuildError>
+    pub(crate) fn param(&mut self, room: usize, field: u8) -> Result<Param, BuildError>
         ensures { Builds result (param_items field)
             (taken room AParameter field self.old) self.old self.new }
     {
@@ -146,7 +146,7 @@ impl<'p, 'a> Builder<'p, 'a> {
 
     #[cycle(build)]
     #[tactic(auto, using(crate::proofs::Parsing::building))]
-    fn class_member(&mut self, room: usize, field: u8) -> Result<ClassMember, BuildError>
+    pub(crate) fn class_member(&mut self, room: usize, field: u8) -> Result<ClassMember, BuildError>
         ensures { Builds result (class_member_items field)
             (taken room AClassMember field self.old) self.old self.new }
     {

@@ -91,7 +91,11 @@ impl<'p, 'a> Builder<'p, 'a> {
 
     #[cycle(build)]
     #[tactic(auto, using(crate::proofs::Parsing::building))]
-    fn var_declarator(&mut self, room: usize, field: u8) -> Result<VarDeclarator, BuildError>
+    pub(crate) fn var_declarator(
+        &mut self,
+        room: usize,
+        field: u8,
+    ) -> Result<VarDeclarator, BuildError>
         ensures { Builds result (var_declarator_items field)
             (taken room ADeclarator field self.old) self.old self.new }
     {

@@ -256,7 +256,11 @@ impl<'p, 'a> Builder<'p, 'a> {
 
     #[cycle(build)]
     #[tactic(auto, using(crate::proofs::Parsing::building))]
-    fn expr_or_spread(&mut self, room: usize, field: u8) -> Result<ExprOrSpread, BuildError>
+    pub(crate) fn expr_or_spread(
+        &mut self,
+        room: usize,
+        field: u8,
+    ) -> Result<ExprOrSpread, BuildError>
         ensures { Builds result (expr_or_spread_items field)
             (taken room AnArgument field self.old) self.old self.new }
     {
@@ -350,7 +354,7 @@ impl<'p, 'a> Builder<'p, 'a> {
 
     #[cycle(build)]
     #[tactic(auto, using(crate::proofs::Parsing::building))]
-    fn callee(&mut self, room: usize, field: u8) -> Result<Callee, BuildError>
+    pub(crate) fn callee(&mut self, room: usize, field: u8) -> Result<Callee, BuildError>
         ensures { Builds result (callee_items field)
             (taken room ACallee field self.old) self.old self.new }
     {
@@ -378,7 +382,7 @@ impl<'p, 'a> Builder<'p, 'a> {
 
     #[cycle(build)]
     #[tactic(auto, using(crate::proofs::Parsing::building))]
-    fn arrow_body(&mut self, room: usize, field: u8) -> Result<ArrowBody, BuildError>
+    pub(crate) fn arrow_body(&mut self, room: usize, field: u8) -> Result<ArrowBody, BuildError>
         ensures { Builds result (arrow_body_items field)
             (taken room AnArrowBody field self.old) self.old self.new }
     {
@@ -466,7 +470,7 @@ impl<'p, 'a> Builder<'p, 'a> {
 
     #[cycle(build)]
     #[tactic(auto, using(crate::proofs::Parsing::building))]
-    fn tpl(&mut self, room: usize, field: u8) -> Result<Tpl, BuildError>
+    pub(crate) fn tpl(&mut self, room: usize, field: u8) -> Result<Tpl, BuildError>
         ensures { Builds result (tpl_items field)
             (taken room ATemplate field self.old) self.old self.new }
     {
@@ -494,7 +498,11 @@ impl<'p, 'a> Builder<'p, 'a> {
 
     #[cycle(build)]
     #[tactic(auto, using(crate::proofs::Parsing::building))]
-    fn opt_chain_base(&mut self, room: usize, field: u8) -> Result<OptChainBase, BuildError>
+    pub(crate) fn opt_chain_base(
+        &mut self,
+        room: usize,
+        field: u8,
+    ) -> Result<OptChainBase, BuildError>
         ensures { Builds result (opt_chain_base_items field)
             (taken room ALink field self.old) self.old self.new }
     {
@@ -518,7 +526,7 @@ impl<'p, 'a> Builder<'p, 'a> {
 
     #[cycle(build)]
     #[tactic(auto, using(crate::proofs::Parsing::building))]
-    fn opt_call_of(&mut self, room: usize, node: Node<'a>) -> Result<OptCall, BuildError>
+    pub(crate) fn opt_call_of(&mut self, room: usize, node: Node<'a>) -> Result<OptCall, BuildError>
         ensures { BuildsNode result opt_call_items (head_of node.entry)
             (after_inside (taken room) (holds AnOptCall (head_of node.entry)) self.old)
             self.old self.new }

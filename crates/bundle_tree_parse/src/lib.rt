@@ -6,6 +6,7 @@ pub mod build;
 pub mod classes;
 pub mod decls;
 pub mod exprs;
+pub mod from_list;
 pub mod modules;
 pub mod names;
 pub mod operators;
@@ -21,9 +22,9 @@ ghost use Rattle.bundle_tree_parse.specs.declared.build.BuildError.TheVariants.{
 ghost use Rattle.bundle_tree_parse.specs.Refused.{IsListOfNoModule, IsListOfNoProperties};
 
 pub use build::BuildError;
-use build::{module_of, properties_of};
 use bundle_syntax::Piece;
 use bundle_tree_ast::{KeyValueProp, Module};
+pub use from_list::{FromList, build_node, build_nodes, make_node, make_nodes};
 use std::alloc::Global;
 
 /// The module whose list this is: its list is just the one that is given. Refused where it is the list of no
@@ -33,7 +34,7 @@ pub fn build_module<'a>(alloc: Global, pieces: &[Piece<'a>]) -> Result<Module, B
     ensures refused { IfErr result (λ why.
         why ≡ Form → IsListOfNoModule (map item_of pieces.now)) }
 {
-    module_of(alloc, pieces)
+    build_node(alloc, pieces)
 }
 
 /// The properties whose lists stand here one after the other, each in field 0. Refused where it is not so,
@@ -47,5 +48,5 @@ pub fn build_properties<'a>(
     ensures refused { IfErr result (λ why.
         why ≡ Form → IsListOfNoProperties (map item_of pieces.now)) }
 {
-    properties_of(alloc, pieces)
+    build_nodes(alloc, pieces)
 }

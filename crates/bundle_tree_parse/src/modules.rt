@@ -19,11 +19,11 @@ use bundle_tree_ast::{
 
 impl<'p, 'a> Builder<'p, 'a> {
     #[tactic(auto, using(crate::proofs::Parsing::building))]
-    pub(crate) fn module(&mut self, room: usize) -> Result<Module, BuildError>
-        ensures { Builds result (module_items 0)
-            (taken room AModule 0 self.old) self.old self.new }
+    pub(crate) fn module(&mut self, room: usize, field: u8) -> Result<Module, BuildError>
+        ensures { Builds result (module_items field)
+            (taken room AModule field self.old) self.old self.new }
     {
-        let (node, room) = self.enter(room, 0)?;
+        let (node, room) = self.enter(room, field)?;
         let it = self.module_of(room, node);
         self.leave(it)
     }
@@ -36,7 +36,7 @@ impl<'p, 'a> Builder<'p, 'a> {
     {
         match node {
             Node::Module => {
-                let body = self.each_module_item(room, 0)?;
+                let body = self.each(room, 0)?;
                 Ok(Module { body })
             }
             _ => Err(BuildError::Form),
@@ -44,26 +44,7 @@ impl<'p, 'a> Builder<'p, 'a> {
     }
 
     #[tactic(auto, using(crate::proofs::Parsing::building))]
-    fn each_module_item(&mut self, room: usize, field: u8) -> Result<Vec<ModuleItem>, BuildError>
-        ensures { Builds result (λ made. flat_map (module_item_items field) made.items)
-            (after_each (taken room AnItem field) field (length self.old) self.old)
-            self.old self.new }
-    {
-        let mut list = Vec::new(self.alloc);
-        let most = self.most();
-        for count in 0..most {
-            if !self.is_in(field) {
-                break;
-            }
-            let it = self.module_item(room, field)?;
-            list.push(it)?;
-        }
-        list.shrink_to_fit();
-        Ok(list)
-    }
-
-    #[tactic(auto, using(crate::proofs::Parsing::building))]
-    fn module_item(&mut self, room: usize, field: u8) -> Result<ModuleItem, BuildError>
+    pub(crate) fn module_item(&mut self, room: usize, field: u8) -> Result<ModuleItem, BuildError>
         ensures { Builds result (module_item_items field)
             (taken room AnItem field self.old) self.old self.new }
     {
@@ -92,14 +73,18 @@ impl<'p, 'a> Builder<'p, 'a> {
     }
 
     #[tactic(auto, using(crate::proofs::Parsing::building))]
-    fn module_decl_of(&mut self, room: usize, node: Node<'a>) -> Result<ModuleDecl, BuildError>
+    pub(crate) fn module_decl_of(
+        &mut self,
+        room: usize,
+        node: Node<'a>,
+    ) -> Result<ModuleDecl, BuildError>
         ensures { BuildsNode result module_decl_items (head_of node.entry)
             (after_inside (taken room) (holds AModuleDecl (head_of node.entry)) self.old)
             self.old self.new }
     {
         match node {
             Node::ImportDecl { meta } => {
-                let specifiers = self.each_import_specifier(room, 0)?;
+                let specifiers = self.each(room, 0)?;
                 let src = self.str(room, 1)?;
                 Ok(ModuleDecl::ImportDecl {
                     specifiers,
@@ -129,30 +114,11 @@ impl<'p, 'a> Builder<'p, 'a> {
     }
 
     #[tactic(auto, using(crate::proofs::Parsing::building))]
-    fn each_import_specifier(
+    pub(crate) fn import_specifier(
         &mut self,
         room: usize,
         field: u8,
-    ) -> Result<Vec<ImportSpecifier>, BuildError>
-        ensures { Builds result (λ made. flat_map (import_specifier_items field) made.items)
-            (after_each (taken room AnImport field) field (length self.old) self.old)
-            self.old self.new }
-    {
-        let mut list = Vec::new(self.alloc);
-        let most = self.most();
-        for count in 0..most {
-            if !self.is_in(field) {
-                break;
-            }
-            let it = self.import_specifier(room, field)?;
-            list.push(it)?;
-        }
-        list.shrink_to_fit();
-        Ok(list)
-    }
-
-    #[tactic(auto, using(crate::proofs::Parsing::building))]
-    fn import_specifier(&mut self, room: usize, field: u8) -> Result<ImportSpecifier, BuildError>
+    ) -> Result<ImportSpecifier, BuildError>
         ensures { Builds result (import_specifier_items field)
             (taken room AnImport field self.old) self.old self.new }
     {
@@ -258,7 +224,7 @@ impl<'p, 'a> Builder<'p, 'a> {
     }
 
     #[tactic(auto, using(crate::proofs::Parsing::building))]
-    fn export_specifier(
+    pub(crate) fn export_specifier(
         &mut self,
         room: usize,
         field: u8,
@@ -298,7 +264,7 @@ impl<'p, 'a> Builder<'p, 'a> {
     }
 
     #[tactic(auto, using(crate::proofs::Parsing::parsing))]
-    fn module_export_name(
+    pub(crate) fn module_export_name(
         &mut self,
         room: usize,
         field: u8,
@@ -332,7 +298,7 @@ impl<'p, 'a> Builder<'p, 'a> {
     }
 
     #[tactic(auto, using(crate::proofs::Parsing::building))]
-    fn default_decl(&mut self, room: usize, field: u8) -> Result<DefaultDecl, BuildError>
+    pub(crate) fn default_decl(&mut self, room: usize, field: u8) -> Result<DefaultDecl, BuildError>
         ensures { Builds result (default_decl_items field)
             (taken room ADefault field self.old) self.old self.new }
     {

@@ -205,7 +205,7 @@ impl<'p, 'a> Builder<'p, 'a> {
     }
 
     #[tactic(auto, using(crate::proofs::Parsing::parsing))]
-    fn regex_of(&self, node: Node<'a>) -> Result<Regex, BuildError>
+    pub(crate) fn regex_of(&self, node: Node<'a>) -> Result<Regex, BuildError>
         ensures { BuildsLeaf result regex_items (head_of node.entry)
             (holds ARegex (head_of node.entry)) }
     {
@@ -234,7 +234,7 @@ impl<'p, 'a> Builder<'p, 'a> {
     }
 
     #[tactic(auto, using(crate::proofs::Parsing::parsing))]
-    fn tpl_element(&mut self, room: usize, field: u8) -> Result<TplElement, BuildError>
+    pub(crate) fn tpl_element(&mut self, room: usize, field: u8) -> Result<TplElement, BuildError>
         ensures { Builds result (tpl_element_items field)
             (taken room ATextPart field self.old) self.old self.new }
     {

@@ -153,7 +153,7 @@ impl<'p, 'a> Builder<'p, 'a> {
 
     #[cycle(build)]
     #[tactic(auto, using(crate::proofs::Parsing::building))]
-    fn array_pat_of(
+    pub(crate) fn array_pat_of(
         &mut self,
         room: usize,
         node: Node<'a>,
@@ -174,7 +174,7 @@ impl<'p, 'a> Builder<'p, 'a> {
 
     #[cycle(build)]
     #[tactic(auto, using(crate::proofs::Parsing::building))]
-    fn rest_pat_of(
+    pub(crate) fn rest_pat_of(
         &mut self,
         room: usize,
         node: Node<'a>,
@@ -195,7 +195,7 @@ impl<'p, 'a> Builder<'p, 'a> {
 
     #[cycle(build)]
     #[tactic(auto, using(crate::proofs::Parsing::building))]
-    fn object_pat_of(
+    pub(crate) fn object_pat_of(
         &mut self,
         room: usize,
         node: Node<'a>,
@@ -241,7 +241,7 @@ impl<'p, 'a> Builder<'p, 'a> {
 
     #[cycle(build)]
     #[tactic(auto, using(crate::proofs::Parsing::building))]
-    fn object_pat_prop(
+    pub(crate) fn object_pat_prop(
         &mut self,
         room: usize,
         field: u8,

@@ -42,7 +42,11 @@ impl<'p, 'a> Builder<'p, 'a> {
 
     #[cycle(build)]
     #[tactic(auto, using(crate::proofs::Parsing::building))]
-    fn prop_or_spread(&mut self, room: usize, field: u8) -> Result<PropOrSpread, BuildError>
+    pub(crate) fn prop_or_spread(
+        &mut self,
+        room: usize,
+        field: u8,
+    ) -> Result<PropOrSpread, BuildError>
         ensures { Builds result (prop_or_spread_items field)
             (taken room APropertyOrSpread field self.old) self.old self.new }
     {
@@ -68,6 +72,19 @@ impl<'p, 'a> Builder<'p, 'a> {
             }
             _ => Ok(PropOrSpread::Prop(self.prop_of(room, node)?)),
         }
+    }
+
+    #[tactic(auto, using(crate::proofs::Parsing::building))]
+    pub(crate) fn prop(&mut self, room: usize, field: u8) -> Result<Prop, BuildError>
+        ensures { Builds result (prop_items field)
+            (taken room AProperty field self.old) self.old self.new }
+    {
+        if self.is_ident() {
+            return Ok(Prop::Shorthand(self.ident(field, Role::Reference)?));
+        }
+        let (node, room) = self.enter(room, field)?;
+        let it = self.prop_of(room, node);
+        self.leave(it)
     }
 
     #[cycle(build)]
@@ -100,30 +117,11 @@ impl<'p, 'a> Builder<'p, 'a> {
     }
 
     #[tactic(auto, using(crate::proofs::Parsing::building))]
-    pub(crate) fn each_key_value_prop(
+    pub(crate) fn key_value_prop(
         &mut self,
         room: usize,
         field: u8,
-    ) -> Result<Vec<KeyValueProp>, BuildError>
-        ensures { Builds result (λ made. flat_map (key_value_prop_items field) made.items)
-            (after_each (taken room AKeyValue field) field (length self.old) self.old)
-            self.old self.new }
-    {
-        let mut list = Vec::new(self.alloc);
-        let most = self.most();
-        for count in 0..most {
-            if !self.is_in(field) {
-                break;
-            }
-            let it = self.key_value_prop(room, field)?;
-            list.push(it)?;
-        }
-        list.shrink_to_fit();
-        Ok(list)
-    }
-
-    #[tactic(auto, using(crate::proofs::Parsing::building))]
-    fn key_value_prop(&mut self, room: usize, field: u8) -> Result<KeyValueProp, BuildError>
+    ) -> Result<KeyValueProp, BuildError>
         ensures { Builds result (key_value_prop_items field)
             (taken room AKeyValue field self.old) self.old self.new }
     {
@@ -151,7 +149,7 @@ impl<'p, 'a> Builder<'p, 'a> {
 
     #[cycle(build)]
     #[tactic(auto, using(crate::proofs::Parsing::building))]
-    fn computed_prop_name_of(
+    pub(crate) fn computed_prop_name_of(
         &mut self,
         room: usize,
         node: Node<'a>,

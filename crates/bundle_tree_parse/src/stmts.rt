@@ -15,7 +15,7 @@ use bundle_tree_ast::{BlockStmt, CatchClause, Expr, ForHead, ForInit, Pat, Stmt,
 impl<'p, 'a> Builder<'p, 'a> {
     #[cycle(build)]
     #[tactic(auto, using(crate::proofs::Parsing::building))]
-    fn stmt(&mut self, room: usize, field: u8) -> Result<Stmt, BuildError>
+    pub(crate) fn stmt(&mut self, room: usize, field: u8) -> Result<Stmt, BuildError>
         ensures { Builds result (stmt_items field)
             (taken room AStmt field self.old) self.old self.new }
     {
@@ -299,7 +299,7 @@ impl<'p, 'a> Builder<'p, 'a> {
 
     #[cycle(build)]
     #[tactic(auto, using(crate::proofs::Parsing::building))]
-    fn switch_case(&mut self, room: usize, field: u8) -> Result<SwitchCase, BuildError>
+    pub(crate) fn switch_case(&mut self, room: usize, field: u8) -> Result<SwitchCase, BuildError>
         ensures { Builds result (switch_case_items field)
             (taken room ACase field self.old) self.old self.new }
     {
@@ -344,7 +344,7 @@ impl<'p, 'a> Builder<'p, 'a> {
 
     #[cycle(build)]
     #[tactic(auto, using(crate::proofs::Parsing::building))]
-    fn catch_clause(&mut self, room: usize, field: u8) -> Result<CatchClause, BuildError>
+    pub(crate) fn catch_clause(&mut self, room: usize, field: u8) -> Result<CatchClause, BuildError>
         ensures { Builds result (catch_clause_items field)
             (taken room AHandler field self.old) self.old self.new }
     {
@@ -385,7 +385,7 @@ impl<'p, 'a> Builder<'p, 'a> {
 
     #[cycle(build)]
     #[tactic(auto, using(crate::proofs::Parsing::building))]
-    fn for_init(&mut self, room: usize, field: u8) -> Result<ForInit, BuildError>
+    pub(crate) fn for_init(&mut self, room: usize, field: u8) -> Result<ForInit, BuildError>
         ensures { Builds result (for_init_items field)
             (taken room AnInit field self.old) self.old self.new }
     {
@@ -412,7 +412,7 @@ impl<'p, 'a> Builder<'p, 'a> {
 
     #[cycle(build)]
     #[tactic(auto, using(crate::proofs::Parsing::building))]
-    fn for_head(&mut self, room: usize, field: u8) -> Result<ForHead, BuildError>
+    pub(crate) fn for_head(&mut self, room: usize, field: u8) -> Result<ForHead, BuildError>
         ensures { Builds result (for_head_items field)
             (taken room ALoopHead field self.old) self.old self.new }
     {

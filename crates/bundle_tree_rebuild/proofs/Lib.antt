@@ -1,7 +1,4 @@
-pub mod Leaves
-pub mod ModuleRules
+mod Lookahead
 pub mod Plain
-pub mod Reading
-pub mod Remaking
-pub mod Rules
-pub mod Spelling
+mod Steps
+pub mod Walks

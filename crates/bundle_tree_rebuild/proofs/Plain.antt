@@ -1,12 +1,10 @@
 -- With plain changes, what a part becomes is what `Edits` says.
-use Rattle.std.proofs.Common.{◌≡◌, ℕ, Bool, true, false, List, [], ◌∷◌, ◌++◌, Option, Some, None, drop, map, refl, ap, sym, ◌∙◌, subst}
+use Rattle.std.proofs.Common.{◌≡◌, ℕ, true, List, [], ◌∷◌, ◌++◌, Option, Some, None, drop, refl, ap, sym, ◌∙◌, subst}
 use Rattle.bundle_syntax.specs.declared.kind.MetaPropKind.{MetaPropKind}
 use Rattle.bundle_syntax.specs.declared.kind.MetaPropKind.TheVariants as k
-use Rattle.bundle_syntax.specs.declared.piece.Role.{Role}
 use Rattle.bundle_syntax.specs.Item as h
 use Rattle.bundle_syntax.specs.Item.{Item, Head}
 use Rattle.bundle_rules.specs.Nodes.{Text}
-use Rattle.bundle_rules.specs.Idents.{Ident}
 use Rattle.bundle_rules.specs.Rebuilds.{Change}
 use Rattle.bundle_tree_places.specs.Edits as e
 use Rattle.bundle_tree_places.specs.Edits.{Around, Anywhere, Edited, Edits, node, is_plain, in_its_place, shorthand_in_its_place}

@@ -1,4 +1,4 @@
 pub mod Becomes
-pub mod Parts
-pub mod Remade
+pub mod Fits
+pub mod Walked
 pub mod Work

@@ -1,5 +1,5 @@
 -- What is asked of a walk that makes a part of a tree anew.
-use Rattle.std.specs.Prelude.{ℕ, Bool, true, false, not, List, [], ◌∷◌, Option, Some, None, drop, map, slice_get, option_map, bytes_eq}
+use Rattle.std.specs.Prelude.{Bool, true, false, not, List, Option, None, drop, map, slice_get, option_map, bytes_eq}
 use Rattle.bundle_rules.specs.Nodes.{Text}
 use Rattle.bundle_rules.specs.Idents.{Ident}
 use Rattle.bundle_rules.specs.Rebuilds.{Change}
@@ -88,6 +88,5 @@ abbrev pub step_of : r_step.Step → Step
 step_of step = record { ident = ident_of step.name; spelling = step.spelling; whole = step.whole }
 
 abbrev pub steps_of : Steps → List Step
-steps_of m.Nothing = []
 steps_of (m.Changes changes) = map change_step changes.now
 steps_of (m.Rewrites rewrites) = map rewrite_step rewrites.now

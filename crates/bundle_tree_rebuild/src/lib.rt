@@ -1,11 +1,12 @@
-//! A syntax tree made anew, with other identifiers at its occurrences, or as it is: a copy. What is short is
-//! spelled out where a change asks for it, so that keys and exported names stay.
+//! The list of a syntax tree made anew, with other identifiers at its occurrences. What is short is spelled out where
+//! a change asks for it, so that keys and exported names stay.
 #![tactic(auto)]
 
-pub mod rebuild;
+mod ahead;
+pub mod kind;
+pub mod rebuilder;
 pub mod rewrite;
-mod whole;
 mod work;
 
-pub use rebuild::{Rebuild, no_notes};
+pub use rebuilder::{Rebuilder, changed_pieces, no_notes};
 pub use rewrite::{Rewrite, Rewriting, Whole};

@@ -1,4 +1,4 @@
-//! What is asked of a walk over a tree, in turn.
+//! What is asked of a walk over a list, in turn.
 
 ghost use Rattle.std.specs.Prelude.{◌≡◌, drop, option_map, slice_get};
 ghost use Rattle.bundle_tree_rebuild.specs.Work.{change_step, is_spelled_out_by, rewrite_step, step_of, steps_of};
@@ -26,7 +26,6 @@ pub(crate) enum Spelling {
 /// What becomes of occurrences in turn.
 #[derive(Clone, Copy)]
 pub(crate) enum Steps<'r, 'c> {
-    Nothing,
     Changes(&'r [Change<'c>]),
     Rewrites(&'r [Rewrite<'c>]),
 }
@@ -69,7 +68,6 @@ impl<'r, 'c> Steps<'r, 'c> {
         ensures { option_map step_of result ≡ slice_get (steps_of self.entry) 0 }
     {
         match self {
-            Steps::Nothing => None,
             Steps::Changes(changes) => match changes.first().copied() {
                 Some(change) => Some(Step::of_change(change)),
                 None => None,
@@ -86,7 +84,6 @@ impl<'r, 'c> Steps<'r, 'c> {
         ensures { steps_of result ≡ drop 1 (steps_of self.entry) }
     {
         match self {
-            Steps::Nothing => Steps::Nothing,
             Steps::Changes(changes) => match changes.split_first() {
                 Some((_, rest)) => Steps::Changes(rest),
                 None => self,

@@ -1,2 +1,3 @@
-pub mod Stating
-pub mod Copying
+mod Making
+mod Stating
+pub mod grammar

@@ -1,2 +1,4 @@
 pub mod Stated
 pub mod Copies
+pub mod Copying
+pub mod Written

@@ -1,5 +1,5 @@
 -- What an item of a module states in a bundle (ECMA-262, 16.2.3.7), by its list.
-use Rattle.std.specs.Prelude.{◌≡◌, ◌≢◌, List, [], ◌∷◌, ◌++◌, Option, Some, None}
+use Rattle.std.specs.Prelude.{◌≡◌, ◌≢◌, List, [], ◌++◌, Option, Some, None}
 use Rattle.bundle_syntax.specs.declared.ident.Ident as v_ident
 use Rattle.bundle_syntax.specs.declared.kind.VarDeclKind.TheVariants as k
 use Rattle.bundle_tree_ast.specs.declared.module.ModuleItem.{ModuleItem}

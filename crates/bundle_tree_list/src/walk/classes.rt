@@ -9,9 +9,10 @@ use bundle_tree_ast::{Class, ClassMember, Function, Param};
 use std::alloc::AllocError;
 
 impl<'a> Walk<'a> {
+    /// Adds the list of a function. Refused only where memory runs out.
     #[cycle(walk)]
-    #[tactic(auto, using(crate::proofs::Steps::steps))]
-    pub(crate) fn function(&mut self, field: u8, function: &'a Function) -> Result<(), AllocError>
+    #[tactic(auto, using(bundle_tree_listed::proofs::Steps::steps))]
+    pub fn function(&mut self, field: u8, function: &'a Function) -> Result<(), AllocError>
         ensures { OnOk result (self.new ≡ self.old ++ function_items field function.now) }
     {
         self.open(
@@ -26,9 +27,10 @@ impl<'a> Walk<'a> {
         self.close()
     }
 
+    /// Adds the list of a parameter. Refused only where memory runs out.
     #[cycle(walk)]
-    #[tactic(auto, using(crate::proofs::Steps::steps))]
-    pub(crate) fn param(&mut self, field: u8, param: &'a Param) -> Result<(), AllocError>
+    #[tactic(auto, using(bundle_tree_listed::proofs::Steps::steps))]
+    pub fn param(&mut self, field: u8, param: &'a Param) -> Result<(), AllocError>
         ensures { OnOk result (self.new ≡ self.old ++ param_items field param.now) }
     {
         self.open(field, Node::Param)?;
@@ -47,9 +49,10 @@ impl<'a> Walk<'a> {
         Ok(())
     }
 
+    /// Adds the list of a class. Refused only where memory runs out.
     #[cycle(walk)]
-    #[tactic(auto, using(crate::proofs::Steps::steps))]
-    pub(crate) fn class(&mut self, field: u8, class: &'a Class) -> Result<(), AllocError>
+    #[tactic(auto, using(bundle_tree_listed::proofs::Steps::steps))]
+    pub fn class(&mut self, field: u8, class: &'a Class) -> Result<(), AllocError>
         ensures { OnOk result (self.new ≡ self.old ++ class_items field class.now) }
     {
         self.open(field, Node::Class)?;
@@ -58,9 +61,10 @@ impl<'a> Walk<'a> {
         self.close()
     }
 
+    /// Adds the list of a member of a class. Refused only where memory runs out.
     #[cycle(walk)]
-    #[tactic(auto, using(crate::proofs::Steps::steps))]
-    pub(crate) fn class_member(
+    #[tactic(auto, using(bundle_tree_listed::proofs::Steps::steps))]
+    pub fn class_member(
         &mut self,
         field: u8,
         class_member: &'a ClassMember,

@@ -9,9 +9,10 @@ use bundle_tree_ast::{Decl, VarDecl, VarDeclarator};
 use std::alloc::AllocError;
 
 impl<'a> Walk<'a> {
+    /// Adds the list of a declaration. Refused only where memory runs out.
     #[cycle(walk)]
-    #[tactic(auto, using(crate::proofs::Steps::steps))]
-    pub(crate) fn decl(&mut self, field: u8, decl: &'a Decl) -> Result<(), AllocError>
+    #[tactic(auto, using(bundle_tree_listed::proofs::Steps::steps))]
+    pub fn decl(&mut self, field: u8, decl: &'a Decl) -> Result<(), AllocError>
         ensures { OnOk result (self.new ≡ self.old ++ decl_items field decl.now) }
     {
         match decl {
@@ -31,9 +32,10 @@ impl<'a> Walk<'a> {
         }
     }
 
+    /// Adds the list of a declaration of variables. Refused only where memory runs out.
     #[cycle(walk)]
-    #[tactic(auto, using(crate::proofs::Steps::steps))]
-    pub(crate) fn var_decl(&mut self, field: u8, var_decl: &'a VarDecl) -> Result<(), AllocError>
+    #[tactic(auto, using(bundle_tree_listed::proofs::Steps::steps))]
+    pub fn var_decl(&mut self, field: u8, var_decl: &'a VarDecl) -> Result<(), AllocError>
         ensures { OnOk result (self.new ≡ self.old ++ var_decl_items field var_decl.now) }
     {
         self.open(
@@ -47,9 +49,10 @@ impl<'a> Walk<'a> {
         self.close()
     }
 
+    /// Adds the list of one variable of a declaration. Refused only where memory runs out.
     #[cycle(walk)]
-    #[tactic(auto, using(crate::proofs::Steps::steps))]
-    pub(crate) fn var_declarator(
+    #[tactic(auto, using(bundle_tree_listed::proofs::Steps::steps))]
+    pub fn var_declarator(
         &mut self,
         field: u8,
         var_declarator: &'a VarDeclarator,

@@ -13,7 +13,7 @@ use std::alloc::AllocError;
 
 impl<'a> Walk<'a> {
     #[cycle(walk)]
-    #[tactic(auto, using(crate::proofs::Steps::steps))]
+    #[tactic(auto, using(bundle_tree_listed::proofs::Steps::steps))]
     pub fn expr(&mut self, field: u8, expr: &'a Expr) -> Result<(), AllocError>
         ensures { OnOk result (self.new ≡ self.old ++ expr_items field expr.now) }
     {
@@ -162,7 +162,7 @@ impl<'a> Walk<'a> {
     }
 
     #[cycle(walk)]
-    #[tactic(auto, using(crate::proofs::Steps::steps))]
+    #[tactic(auto, using(bundle_tree_listed::proofs::Steps::steps))]
     pub(crate) fn option_expr(
         &mut self,
         field: u8,
@@ -188,7 +188,7 @@ impl<'a> Walk<'a> {
     }
 
     #[cycle(walk)]
-    #[tactic(auto, using(crate::proofs::Steps::steps))]
+    #[tactic(auto, using(bundle_tree_listed::proofs::Steps::steps))]
     pub(crate) fn option_boxed_expr(
         &mut self,
         field: u8,
@@ -202,13 +202,10 @@ impl<'a> Walk<'a> {
         }
     }
 
+    /// Adds the list of an expression in parentheses. Refused only where memory runs out.
     #[cycle(walk)]
-    #[tactic(auto, using(crate::proofs::Steps::steps))]
-    pub(crate) fn paren_expr(
-        &mut self,
-        field: u8,
-        paren_expr: &'a ParenExpr,
-    ) -> Result<(), AllocError>
+    #[tactic(auto, using(bundle_tree_listed::proofs::Steps::steps))]
+    pub fn paren_expr(&mut self, field: u8, paren_expr: &'a ParenExpr) -> Result<(), AllocError>
         ensures { OnOk result (self.new ≡ self.old ++ paren_expr_items field paren_expr.now) }
     {
         self.open(field, Node::ParenExpr)?;
@@ -216,13 +213,10 @@ impl<'a> Walk<'a> {
         self.close()
     }
 
+    /// Adds the list of a member expression. Refused only where memory runs out.
     #[cycle(walk)]
-    #[tactic(auto, using(crate::proofs::Steps::steps))]
-    pub(crate) fn member_expr(
-        &mut self,
-        field: u8,
-        member_expr: &'a MemberExpr,
-    ) -> Result<(), AllocError>
+    #[tactic(auto, using(bundle_tree_listed::proofs::Steps::steps))]
+    pub fn member_expr(&mut self, field: u8, member_expr: &'a MemberExpr) -> Result<(), AllocError>
         ensures { OnOk result (self.new ≡ self.old ++ member_expr_items field member_expr.now) }
     {
         self.open(field, Node::MemberExpr)?;
@@ -231,9 +225,10 @@ impl<'a> Walk<'a> {
         self.close()
     }
 
+    /// Adds the list of a property of `super`. Refused only where memory runs out.
     #[cycle(walk)]
-    #[tactic(auto, using(crate::proofs::Steps::steps))]
-    pub(crate) fn super_prop_expr(
+    #[tactic(auto, using(bundle_tree_listed::proofs::Steps::steps))]
+    pub fn super_prop_expr(
         &mut self,
         field: u8,
         super_prop_expr: &'a SuperPropExpr,
@@ -246,9 +241,10 @@ impl<'a> Walk<'a> {
         self.close()
     }
 
+    /// Adds the list of what is called. Refused only where memory runs out.
     #[cycle(walk)]
-    #[tactic(auto, using(crate::proofs::Steps::steps))]
-    pub(crate) fn callee(&mut self, field: u8, callee: &'a Callee) -> Result<(), AllocError>
+    #[tactic(auto, using(bundle_tree_listed::proofs::Steps::steps))]
+    pub fn callee(&mut self, field: u8, callee: &'a Callee) -> Result<(), AllocError>
         ensures { OnOk result (self.new ≡ self.old ++ callee_items field callee.now) }
     {
         match callee {
@@ -264,9 +260,10 @@ impl<'a> Walk<'a> {
         }
     }
 
+    /// Adds the list of an argument or an element, which may be spread. Refused only where memory runs out.
     #[cycle(walk)]
-    #[tactic(auto, using(crate::proofs::Steps::steps))]
-    pub(crate) fn expr_or_spread(
+    #[tactic(auto, using(bundle_tree_listed::proofs::Steps::steps))]
+    pub fn expr_or_spread(
         &mut self,
         field: u8,
         expr_or_spread: &'a ExprOrSpread,
@@ -319,7 +316,7 @@ impl<'a> Walk<'a> {
     }
 
     #[cycle(walk)]
-    #[tactic(auto, using(crate::proofs::Steps::steps))]
+    #[tactic(auto, using(bundle_tree_listed::proofs::Steps::steps))]
     pub(crate) fn option_each_expr_or_spread(
         &mut self,
         field: u8,
@@ -334,13 +331,10 @@ impl<'a> Walk<'a> {
         }
     }
 
+    /// Adds the list of the body of an arrow function. Refused only where memory runs out.
     #[cycle(walk)]
-    #[tactic(auto, using(crate::proofs::Steps::steps))]
-    pub(crate) fn arrow_body(
-        &mut self,
-        field: u8,
-        arrow_body: &'a ArrowBody,
-    ) -> Result<(), AllocError>
+    #[tactic(auto, using(bundle_tree_listed::proofs::Steps::steps))]
+    pub fn arrow_body(&mut self, field: u8, arrow_body: &'a ArrowBody) -> Result<(), AllocError>
         ensures { OnOk result (self.new ≡ self.old ++ arrow_body_items field arrow_body.now) }
     {
         match arrow_body {
@@ -349,9 +343,10 @@ impl<'a> Walk<'a> {
         }
     }
 
+    /// Adds the list of a link of an optional chain. Refused only where memory runs out.
     #[cycle(walk)]
-    #[tactic(auto, using(crate::proofs::Steps::steps))]
-    pub(crate) fn opt_chain_base(
+    #[tactic(auto, using(bundle_tree_listed::proofs::Steps::steps))]
+    pub fn opt_chain_base(
         &mut self,
         field: u8,
         opt_chain_base: &'a OptChainBase,
@@ -365,9 +360,10 @@ impl<'a> Walk<'a> {
         }
     }
 
+    /// Adds the list of a call in an optional chain. Refused only where memory runs out.
     #[cycle(walk)]
-    #[tactic(auto, using(crate::proofs::Steps::steps))]
-    pub(crate) fn opt_call(&mut self, field: u8, opt_call: &'a OptCall) -> Result<(), AllocError>
+    #[tactic(auto, using(bundle_tree_listed::proofs::Steps::steps))]
+    pub fn opt_call(&mut self, field: u8, opt_call: &'a OptCall) -> Result<(), AllocError>
         ensures { OnOk result (self.new ≡ self.old ++ opt_call_items field opt_call.now) }
     {
         self.open(field, Node::OptCall)?;
@@ -376,9 +372,10 @@ impl<'a> Walk<'a> {
         self.close()
     }
 
+    /// Adds the list of a template. Refused only where memory runs out.
     #[cycle(walk)]
-    #[tactic(auto, using(crate::proofs::Steps::steps))]
-    pub(crate) fn tpl(&mut self, field: u8, tpl: &'a Tpl) -> Result<(), AllocError>
+    #[tactic(auto, using(bundle_tree_listed::proofs::Steps::steps))]
+    pub fn tpl(&mut self, field: u8, tpl: &'a Tpl) -> Result<(), AllocError>
         ensures { OnOk result (self.new ≡ self.old ++ tpl_items field tpl.now) }
     {
         self.open(field, Node::Tpl)?;

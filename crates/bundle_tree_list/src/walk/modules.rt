@@ -13,11 +13,8 @@ use bundle_tree_ast::{
 use std::alloc::AllocError;
 
 impl<'a> Walk<'a> {
-    pub(crate) fn module_item(
-        &mut self,
-        field: u8,
-        module_item: &'a ModuleItem,
-    ) -> Result<(), AllocError>
+    /// Adds the list of an item of a module. Refused only where memory runs out.
+    pub fn module_item(&mut self, field: u8, module_item: &'a ModuleItem) -> Result<(), AllocError>
         ensures { OnOk result (self.new ≡ self.old ++ module_item_items field module_item.now) }
     {
         match module_item {
@@ -26,11 +23,8 @@ impl<'a> Walk<'a> {
         }
     }
 
-    pub(crate) fn module_decl(
-        &mut self,
-        field: u8,
-        module_decl: &'a ModuleDecl,
-    ) -> Result<(), AllocError>
+    /// Adds the list of an import or an export. Refused only where memory runs out.
+    pub fn module_decl(&mut self, field: u8, module_decl: &'a ModuleDecl) -> Result<(), AllocError>
         ensures { OnOk result (self.new ≡ self.old ++ module_decl_items field module_decl.now) }
     {
         match module_decl {
@@ -78,7 +72,8 @@ impl<'a> Walk<'a> {
         }
     }
 
-    pub(crate) fn import_specifier(
+    /// Adds the list of a specifier of an import. Refused only where memory runs out.
+    pub fn import_specifier(
         &mut self,
         field: u8,
         import_specifier: &'a ImportSpecifier,
@@ -121,7 +116,8 @@ impl<'a> Walk<'a> {
         Ok(())
     }
 
-    pub(crate) fn export_specifier(
+    /// Adds the list of a specifier of an export list, in which its first name has this role. Refused only where memory runs out.
+    pub fn export_specifier(
         &mut self,
         field: u8,
         role: Role,
@@ -161,7 +157,8 @@ impl<'a> Walk<'a> {
         Ok(())
     }
 
-    pub(crate) fn module_export_name(
+    /// Adds the list of a name of an import or export, in this role. Refused only where memory runs out.
+    pub fn module_export_name(
         &mut self,
         field: u8,
         role: Role,
@@ -192,7 +189,8 @@ impl<'a> Walk<'a> {
         }
     }
 
-    pub(crate) fn default_decl(
+    /// Adds the list of a default function or class. Refused only where memory runs out.
+    pub fn default_decl(
         &mut self,
         field: u8,
         default_decl: &'a DefaultDecl,

@@ -12,11 +12,8 @@ use bundle_tree_ast::{
 use std::alloc::AllocError;
 
 impl<'a> Walk<'a> {
-    pub(crate) fn ident_name(
-        &mut self,
-        field: u8,
-        ident_name: &'a IdentName,
-    ) -> Result<(), AllocError>
+    /// Adds the list of a word. Refused only where memory runs out.
+    pub fn ident_name(&mut self, field: u8, ident_name: &'a IdentName) -> Result<(), AllocError>
         ensures { OnOk result (self.new ≡ self.old ++ ident_name_items field ident_name.now) }
     {
         self.open(
@@ -42,7 +39,8 @@ impl<'a> Walk<'a> {
         }
     }
 
-    pub(crate) fn private_name(
+    /// Adds the list of a private name. Refused only where memory runs out.
+    pub fn private_name(
         &mut self,
         field: u8,
         private_name: &'a PrivateName,
@@ -58,7 +56,8 @@ impl<'a> Walk<'a> {
         self.close()
     }
 
-    pub(crate) fn binding_ident(
+    /// Adds the list of a name that is bound or assigned, in this role. Refused only where memory runs out.
+    pub fn binding_ident(
         &mut self,
         field: u8,
         role: Role,
@@ -72,7 +71,8 @@ impl<'a> Walk<'a> {
         self.close()
     }
 
-    pub(crate) fn str(&mut self, field: u8, str: &'a Str) -> Result<(), AllocError>
+    /// Adds the list of a string. Refused only where memory runs out.
+    pub fn str(&mut self, field: u8, str: &'a Str) -> Result<(), AllocError>
         ensures { OnOk result (self.new ≡ self.old ++ str_items field str.now) }
     {
         self.open(
@@ -98,7 +98,8 @@ impl<'a> Walk<'a> {
         }
     }
 
-    pub(crate) fn number(&mut self, field: u8, number: &'a Number) -> Result<(), AllocError>
+    /// Adds the list of a number. Refused only where memory runs out.
+    pub fn number(&mut self, field: u8, number: &'a Number) -> Result<(), AllocError>
         ensures { OnOk result (self.new ≡ self.old ++ number_items field number.now) }
     {
         self.open(
@@ -110,7 +111,8 @@ impl<'a> Walk<'a> {
         self.close()
     }
 
-    pub(crate) fn big_int(&mut self, field: u8, big_int: &'a BigInt) -> Result<(), AllocError>
+    /// Adds the list of a big integer. Refused only where memory runs out.
+    pub fn big_int(&mut self, field: u8, big_int: &'a BigInt) -> Result<(), AllocError>
         ensures { OnOk result (self.new ≡ self.old ++ big_int_items field big_int.now) }
     {
         self.open(
@@ -122,7 +124,8 @@ impl<'a> Walk<'a> {
         self.close()
     }
 
-    pub(crate) fn regex(&mut self, field: u8, regex: &'a Regex) -> Result<(), AllocError>
+    /// Adds the list of a regular expression. Refused only where memory runs out.
+    pub fn regex(&mut self, field: u8, regex: &'a Regex) -> Result<(), AllocError>
         ensures { OnOk result (self.new ≡ self.old ++ regex_items field regex.now) }
     {
         self.open(
@@ -134,7 +137,8 @@ impl<'a> Walk<'a> {
         self.close()
     }
 
-    pub(crate) fn lit(&mut self, field: u8, lit: &'a Lit) -> Result<(), AllocError>
+    /// Adds the list of a literal. Refused only where memory runs out.
+    pub fn lit(&mut self, field: u8, lit: &'a Lit) -> Result<(), AllocError>
         ensures { OnOk result (self.new ≡ self.old ++ lit_items field lit.now) }
     {
         match lit {
@@ -153,11 +157,8 @@ impl<'a> Walk<'a> {
         }
     }
 
-    pub(crate) fn tpl_element(
-        &mut self,
-        field: u8,
-        tpl_element: &'a TplElement,
-    ) -> Result<(), AllocError>
+    /// Adds the list of a text of a template. Refused only where memory runs out.
+    pub fn tpl_element(&mut self, field: u8, tpl_element: &'a TplElement) -> Result<(), AllocError>
         ensures { OnOk result (self.new ≡ self.old ++ tpl_element_items field tpl_element.now) }
     {
         self.open(

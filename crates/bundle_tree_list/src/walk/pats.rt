@@ -12,9 +12,10 @@ use bundle_tree_ast::{
 use std::alloc::AllocError;
 
 impl<'a> Walk<'a> {
+    /// Adds the list of a pattern, whose names have this role. Refused only where memory runs out.
     #[cycle(walk)]
-    #[tactic(auto, using(crate::proofs::Steps::steps))]
-    pub(crate) fn pat(&mut self, field: u8, role: Role, pat: &'a Pat) -> Result<(), AllocError>
+    #[tactic(auto, using(bundle_tree_listed::proofs::Steps::steps))]
+    pub fn pat(&mut self, field: u8, role: Role, pat: &'a Pat) -> Result<(), AllocError>
         ensures { OnOk result (self.new ≡ self.old ++ pat_items role field pat.now) }
     {
         match pat {
@@ -33,7 +34,7 @@ impl<'a> Walk<'a> {
     }
 
     #[cycle(walk)]
-    #[tactic(auto, using(crate::proofs::Steps::steps))]
+    #[tactic(auto, using(bundle_tree_listed::proofs::Steps::steps))]
     pub(crate) fn option_pat(
         &mut self,
         field: u8,
@@ -83,9 +84,10 @@ impl<'a> Walk<'a> {
         Ok(())
     }
 
+    /// Adds the list of an array pattern, whose names have this role. Refused only where memory runs out.
     #[cycle(walk)]
-    #[tactic(auto, using(crate::proofs::Steps::steps))]
-    pub(crate) fn array_pat(
+    #[tactic(auto, using(bundle_tree_listed::proofs::Steps::steps))]
+    pub fn array_pat(
         &mut self,
         field: u8,
         role: Role,
@@ -98,9 +100,10 @@ impl<'a> Walk<'a> {
         self.close()
     }
 
+    /// Adds the list of a rest pattern, whose names have this role. Refused only where memory runs out.
     #[cycle(walk)]
-    #[tactic(auto, using(crate::proofs::Steps::steps))]
-    pub(crate) fn rest_pat(
+    #[tactic(auto, using(bundle_tree_listed::proofs::Steps::steps))]
+    pub fn rest_pat(
         &mut self,
         field: u8,
         role: Role,
@@ -113,9 +116,10 @@ impl<'a> Walk<'a> {
         self.close()
     }
 
+    /// Adds the list of an object pattern, whose names have this role. Refused only where memory runs out.
     #[cycle(walk)]
-    #[tactic(auto, using(crate::proofs::Steps::steps))]
-    pub(crate) fn object_pat(
+    #[tactic(auto, using(bundle_tree_listed::proofs::Steps::steps))]
+    pub fn object_pat(
         &mut self,
         field: u8,
         role: Role,
@@ -129,9 +133,10 @@ impl<'a> Walk<'a> {
         self.close()
     }
 
+    /// Adds the list of a property of a pattern, whose names have this role. Refused only where memory runs out.
     #[cycle(walk)]
-    #[tactic(auto, using(crate::proofs::Steps::steps))]
-    pub(crate) fn object_pat_prop(
+    #[tactic(auto, using(bundle_tree_listed::proofs::Steps::steps))]
+    pub fn object_pat_prop(
         &mut self,
         field: u8,
         role: Role,
@@ -174,9 +179,10 @@ impl<'a> Walk<'a> {
         Ok(())
     }
 
+    /// Adds the list of what is assigned to. Refused only where memory runs out.
     #[cycle(walk)]
-    #[tactic(auto, using(crate::proofs::Steps::steps))]
-    pub(crate) fn assign_target(
+    #[tactic(auto, using(bundle_tree_listed::proofs::Steps::steps))]
+    pub fn assign_target(
         &mut self,
         field: u8,
         assign_target: &'a AssignTarget,

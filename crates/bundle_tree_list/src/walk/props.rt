@@ -12,9 +12,10 @@ use bundle_tree_ast::{
 use std::alloc::AllocError;
 
 impl<'a> Walk<'a> {
+    /// Adds the list of a property or a spread. Refused only where memory runs out.
     #[cycle(walk)]
-    #[tactic(auto, using(crate::proofs::Steps::steps))]
-    pub(crate) fn prop_or_spread(
+    #[tactic(auto, using(bundle_tree_listed::proofs::Steps::steps))]
+    pub fn prop_or_spread(
         &mut self,
         field: u8,
         prop_or_spread: &'a PropOrSpread,
@@ -47,9 +48,10 @@ impl<'a> Walk<'a> {
         Ok(())
     }
 
+    /// Adds the list of a property. Refused only where memory runs out.
     #[cycle(walk)]
-    #[tactic(auto, using(crate::proofs::Steps::steps))]
-    pub(crate) fn prop(&mut self, field: u8, prop: &'a Prop) -> Result<(), AllocError>
+    #[tactic(auto, using(bundle_tree_listed::proofs::Steps::steps))]
+    pub fn prop(&mut self, field: u8, prop: &'a Prop) -> Result<(), AllocError>
         ensures { OnOk result (self.new ≡ self.old ++ prop_items field prop.now) }
     {
         match prop {
@@ -77,9 +79,10 @@ impl<'a> Walk<'a> {
         }
     }
 
+    /// Adds the list of a property with a key and a value. Refused only where memory runs out.
     #[cycle(walk)]
-    #[tactic(auto, using(crate::proofs::Steps::steps))]
-    pub(crate) fn key_value_prop(
+    #[tactic(auto, using(bundle_tree_listed::proofs::Steps::steps))]
+    pub fn key_value_prop(
         &mut self,
         field: u8,
         key_value_prop: &'a KeyValueProp,
@@ -93,9 +96,10 @@ impl<'a> Walk<'a> {
         self.close()
     }
 
+    /// Adds the list of a computed key. Refused only where memory runs out.
     #[cycle(walk)]
-    #[tactic(auto, using(crate::proofs::Steps::steps))]
-    pub(crate) fn computed_prop_name(
+    #[tactic(auto, using(bundle_tree_listed::proofs::Steps::steps))]
+    pub fn computed_prop_name(
         &mut self,
         field: u8,
         computed_prop_name: &'a ComputedPropName,
@@ -108,9 +112,10 @@ impl<'a> Walk<'a> {
         self.close()
     }
 
+    /// Adds the list of the key of a property. Refused only where memory runs out.
     #[cycle(walk)]
-    #[tactic(auto, using(crate::proofs::Steps::steps))]
-    pub(crate) fn prop_name(&mut self, field: u8, prop_name: &'a PropName) -> Result<(), AllocError>
+    #[tactic(auto, using(bundle_tree_listed::proofs::Steps::steps))]
+    pub fn prop_name(&mut self, field: u8, prop_name: &'a PropName) -> Result<(), AllocError>
         ensures { OnOk result (self.new ≡ self.old ++ prop_name_items field prop_name.now) }
     {
         match prop_name {
@@ -122,13 +127,10 @@ impl<'a> Walk<'a> {
         }
     }
 
+    /// Adds the list of the key of a member expression. Refused only where memory runs out.
     #[cycle(walk)]
-    #[tactic(auto, using(crate::proofs::Steps::steps))]
-    pub(crate) fn member_prop(
-        &mut self,
-        field: u8,
-        member_prop: &'a MemberProp,
-    ) -> Result<(), AllocError>
+    #[tactic(auto, using(bundle_tree_listed::proofs::Steps::steps))]
+    pub fn member_prop(&mut self, field: u8, member_prop: &'a MemberProp) -> Result<(), AllocError>
         ensures { OnOk result (self.new ≡ self.old ++ member_prop_items field member_prop.now) }
     {
         match member_prop {
@@ -138,13 +140,10 @@ impl<'a> Walk<'a> {
         }
     }
 
+    /// Adds the list of the key of a property of `super`. Refused only where memory runs out.
     #[cycle(walk)]
-    #[tactic(auto, using(crate::proofs::Steps::steps))]
-    pub(crate) fn super_prop(
-        &mut self,
-        field: u8,
-        super_prop: &'a SuperProp,
-    ) -> Result<(), AllocError>
+    #[tactic(auto, using(bundle_tree_listed::proofs::Steps::steps))]
+    pub fn super_prop(&mut self, field: u8, super_prop: &'a SuperProp) -> Result<(), AllocError>
         ensures { OnOk result (self.new ≡ self.old ++ super_prop_items field super_prop.now) }
     {
         match super_prop {

@@ -11,13 +11,10 @@ use bundle_tree_ast::{
 use std::alloc::AllocError;
 
 impl<'a> Walk<'a> {
+    /// Adds the list of a block. Refused only where memory runs out.
     #[cycle(walk)]
-    #[tactic(auto, using(crate::proofs::Steps::steps))]
-    pub(crate) fn block_stmt(
-        &mut self,
-        field: u8,
-        block_stmt: &'a BlockStmt,
-    ) -> Result<(), AllocError>
+    #[tactic(auto, using(bundle_tree_listed::proofs::Steps::steps))]
+    pub fn block_stmt(&mut self, field: u8, block_stmt: &'a BlockStmt) -> Result<(), AllocError>
         ensures { OnOk result (self.new ≡ self.old ++ block_stmt_items field block_stmt.now) }
     {
         self.open(field, Node::BlockStmt)?;
@@ -26,7 +23,7 @@ impl<'a> Walk<'a> {
     }
 
     #[cycle(walk)]
-    #[tactic(auto, using(crate::proofs::Steps::steps))]
+    #[tactic(auto, using(bundle_tree_listed::proofs::Steps::steps))]
     pub(crate) fn option_block_stmt(
         &mut self,
         field: u8,
@@ -40,9 +37,10 @@ impl<'a> Walk<'a> {
         }
     }
 
+    /// Adds the list of a statement. Refused only where memory runs out.
     #[cycle(walk)]
-    #[tactic(auto, using(crate::proofs::Steps::steps))]
-    pub(crate) fn stmt(&mut self, field: u8, stmt: &'a Stmt) -> Result<(), AllocError>
+    #[tactic(auto, using(bundle_tree_listed::proofs::Steps::steps))]
+    pub fn stmt(&mut self, field: u8, stmt: &'a Stmt) -> Result<(), AllocError>
         ensures { OnOk result (self.new ≡ self.old ++ stmt_items field stmt.now) }
     {
         match stmt {
@@ -184,7 +182,7 @@ impl<'a> Walk<'a> {
     }
 
     #[cycle(walk)]
-    #[tactic(auto, using(crate::proofs::Steps::steps))]
+    #[tactic(auto, using(bundle_tree_listed::proofs::Steps::steps))]
     pub(crate) fn option_boxed_stmt(
         &mut self,
         field: u8,
@@ -198,13 +196,10 @@ impl<'a> Walk<'a> {
         }
     }
 
+    /// Adds the list of a case of a `switch`. Refused only where memory runs out.
     #[cycle(walk)]
-    #[tactic(auto, using(crate::proofs::Steps::steps))]
-    pub(crate) fn switch_case(
-        &mut self,
-        field: u8,
-        switch_case: &'a SwitchCase,
-    ) -> Result<(), AllocError>
+    #[tactic(auto, using(bundle_tree_listed::proofs::Steps::steps))]
+    pub fn switch_case(&mut self, field: u8, switch_case: &'a SwitchCase) -> Result<(), AllocError>
         ensures { OnOk result (self.new ≡ self.old ++ switch_case_items field switch_case.now) }
     {
         self.open(field, Node::SwitchCase)?;
@@ -228,9 +223,10 @@ impl<'a> Walk<'a> {
         Ok(())
     }
 
+    /// Adds the list of a `catch` clause. Refused only where memory runs out.
     #[cycle(walk)]
-    #[tactic(auto, using(crate::proofs::Steps::steps))]
-    pub(crate) fn catch_clause(
+    #[tactic(auto, using(bundle_tree_listed::proofs::Steps::steps))]
+    pub fn catch_clause(
         &mut self,
         field: u8,
         catch_clause: &'a CatchClause,
@@ -244,7 +240,7 @@ impl<'a> Walk<'a> {
     }
 
     #[cycle(walk)]
-    #[tactic(auto, using(crate::proofs::Steps::steps))]
+    #[tactic(auto, using(bundle_tree_listed::proofs::Steps::steps))]
     pub(crate) fn option_catch_clause(
         &mut self,
         field: u8,
@@ -259,9 +255,10 @@ impl<'a> Walk<'a> {
         }
     }
 
+    /// Adds the list of what a `for` loop begins with. Refused only where memory runs out.
     #[cycle(walk)]
-    #[tactic(auto, using(crate::proofs::Steps::steps))]
-    pub(crate) fn for_init(&mut self, field: u8, for_init: &'a ForInit) -> Result<(), AllocError>
+    #[tactic(auto, using(bundle_tree_listed::proofs::Steps::steps))]
+    pub fn for_init(&mut self, field: u8, for_init: &'a ForInit) -> Result<(), AllocError>
         ensures { OnOk result (self.new ≡ self.old ++ for_init_items field for_init.now) }
     {
         match for_init {
@@ -271,7 +268,7 @@ impl<'a> Walk<'a> {
     }
 
     #[cycle(walk)]
-    #[tactic(auto, using(crate::proofs::Steps::steps))]
+    #[tactic(auto, using(bundle_tree_listed::proofs::Steps::steps))]
     pub(crate) fn option_for_init(
         &mut self,
         field: u8,
@@ -285,9 +282,10 @@ impl<'a> Walk<'a> {
         }
     }
 
+    /// Adds the list of what a `for` loop over values assigns to. Refused only where memory runs out.
     #[cycle(walk)]
-    #[tactic(auto, using(crate::proofs::Steps::steps))]
-    pub(crate) fn for_head(&mut self, field: u8, for_head: &'a ForHead) -> Result<(), AllocError>
+    #[tactic(auto, using(bundle_tree_listed::proofs::Steps::steps))]
+    pub fn for_head(&mut self, field: u8, for_head: &'a ForHead) -> Result<(), AllocError>
         ensures { OnOk result (self.new ≡ self.old ++ for_head_items field for_head.now) }
     {
         match for_head {

@@ -1,15 +1,13 @@
--- A function with its name.
-use Rattle.std.proofs.Common.{◌∙◌, ap, ◌++◌}
-use Rattle.bundle_syntax.specs.declared.piece.Role.TheVariants.{Binding}
-use Rattle.bundle_syntax.specs.Item as h
-use Rattle.bundle_tree_listed.specs.Tree.{function_items, node, stmt_items}
-use Rattle.bundle_rules.specs.Idents.{Ident}
+-- The list is that of the form, and one of the grammar.
+use Rattle.std.proofs.Common.{◌∙◌}
+use Rattle.std.proofs.lemmas.Result.{IfOk-weaker}
 use Rattle.bundle_tree_places.specs.Marks.{ident_of}
-use Rattle.bundle_merge_injected.specs.Listed.{named}
+use Rattle.bundle_merge_injected.proofs.Grammar.{helper_declared, stands}
+use Rattle.bundle_merge_injected.proofs.Written.{alone}
 use Rattle.bundle_merge_injected.proofs.common_js.helper.Goals as goal
 
+pub make_node-requires : goal.make_node-requires
+make_node-requires c = stands _ _ (c.as_slice.ensures ∙ alone _ _ _ c.new-writer.ensures c.in_ok-helper.ensures) (helper_declared (ident_of c.args.names.helper) (ident_of c.args.names.func) (ident_of c.args.names.module_object))
+
 pub returns : goal.returns
-unfolding stmt_items
-returns c =
-    ap (λ (l : Ident). node 0 h.FnDecl (named 0 Binding l ++ function_items 1 c.in_ok-function.function)) c.in_ok-ident.ensures
-    ∙ ap (λ made. node 0 h.FnDecl (named 0 Binding (ident_of c.args.names.helper) ++ made)) c.in_ok-function.ensures
+returns c = IfOk-weaker c.make_node.result _ _ (λ made is. is ∙ c.as_slice.ensures ∙ alone _ _ _ c.new-writer.ensures c.in_ok-helper.ensures) c.make_node.ensures

@@ -1,13 +1,14 @@
--- A constant whose value is the call of a function that returns the object.
-use Rattle.std.proofs.Common.{◌∙◌, ap, []}
+-- The list is that of the form, and one of the grammar.
+use Rattle.std.proofs.Common.{map, ◌∙◌}
 use Rattle.std.proofs.lemmas.Result.{IfOk-weaker}
-use Rattle.bundle_syntax.specs.Item as h
-use Rattle.bundle_tree_listed.specs.Tree.{node}
 use Rattle.bundle_tree_places.specs.Marks.{ident_of}
-use Rattle.bundle_merge_injected.specs.Listed.{call_in, constant, function_in}
+use Rattle.bundle_merge_injected.specs.Listed.{pair_of}
+use Rattle.bundle_merge_injected.proofs.Grammar.{namespace_declared, stands}
+use Rattle.bundle_merge_injected.proofs.Written.{alone}
 use Rattle.bundle_merge_injected.proofs.object.namespace_object.Goals as goal
 
+pub make_node-requires : goal.make_node-requires
+make_node-requires c = stands _ _ (c.as_slice.ensures ∙ alone _ _ _ c.new-writer.ensures c.in_ok-namespace_object.ensures) (namespace_declared c.args.notes (ident_of c.args.object) (map pair_of c.args.pairs.now))
+
 pub returns : goal.returns
-returns c =
-    IfOk-weaker c.constant.result _ _ (λ made is. is ∙ ap (constant c.args.notes (ident_of c.args.object)) (c.in_ok-value.ensures 1
-    ∙ ap (λ callee. call_in 1 callee []) (c.closure.ensures 0 ∙ ap (λ stmts. node 0 h.FnExpr (function_in 1 [] stmts)) (c.in_ok-stmts.ensures ∙ c.in_ok-returned.ensures)))) c.constant.ensures
+returns c = IfOk-weaker c.make_node.result _ _ (λ made is. is ∙ c.as_slice.ensures ∙ alone _ _ _ c.new-writer.ensures c.in_ok-namespace_object.ensures) c.make_node.ensures

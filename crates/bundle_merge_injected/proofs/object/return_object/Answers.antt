@@ -1,14 +1,13 @@
--- The object in a `return`.
-use Rattle.std.proofs.Common.{◌∙◌, ap, ◌∷◌, [], append_assoc, map}
-use Rattle.std.specs.List.{flat_map}
-use Rattle.bundle_syntax.specs.Item as h
-use Rattle.bundle_tree_listed.specs.Tree.{node, stmt_items}
-use Rattle.bundle_rules.specs.Forms.{returned_property}
+-- The list is that of the form, and one of the grammar.
+use Rattle.std.proofs.Common.{map, ◌∙◌}
+use Rattle.std.proofs.lemmas.Result.{IfOk-weaker}
 use Rattle.bundle_merge_injected.specs.Listed.{pair_of}
+use Rattle.bundle_merge_injected.proofs.Grammar.{object_returned, stands}
+use Rattle.bundle_merge_injected.proofs.Written.{alone}
 use Rattle.bundle_merge_injected.proofs.object.return_object.Goals as goal
 
+pub make_node-requires : goal.make_node-requires
+make_node-requires c = stands _ _ (c.as_slice.ensures ∙ alone _ _ _ c.new-writer.ensures c.in_ok-returned_object.ensures) (object_returned (map pair_of c.args.pairs.now))
+
 pub returns : goal.returns
-unfolding stmt_items
-returns c =
-    ap (node 0 h.ReturnStmt) (c.in_ok-object.ensures 0)
-    ∙ ap (λ items. h.Open 0 h.ReturnStmt ∷ h.Open 0 h.ObjectLit ∷ items) (append_assoc (flat_map returned_property (map pair_of c.args.pairs.now)) (h.Close ∷ []) (h.Close ∷ []))
+returns c = IfOk-weaker c.make_node.result _ _ (λ made is. is ∙ c.as_slice.ensures ∙ alone _ _ _ c.new-writer.ensures c.in_ok-returned_object.ensures) c.make_node.ensures

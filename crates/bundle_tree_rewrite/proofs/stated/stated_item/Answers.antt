@@ -1,10 +1,12 @@
--- An item is what it holds.
-use Rattle.std.proofs.lemmas.Result.{IfOk-weaker}
-use Rattle.bundle_tree_rewrite.proofs.Stating.{states_so}
+-- What was made is a statement, if there is something.
+use Rattle.std.proofs.Common.{◌≡◌, [], map, ap, sym, subst}
+use Rattle.std.specs.Prelude.{◌⊎◌}
+use Rattle.bundle_syntax.specs.Item.{item_of}
+use Rattle.bundle_tree_parse.specs.Sorts.{AStmt}
+use Rattle.bundle_tree_parse.specs.Standing.{IsIn}
+use Rattle.bundle_tree_rewrite.proofs.grammar.States.{states_in}
 use Rattle.bundle_tree_rewrite.proofs.stated.stated_item.Goals as goal
 
-pub returns-in-Stmt : goal.returns-in-Stmt
-returns-in-Stmt c = IfOk-weaker c.stated_stmt.result _ _ (λ made one. states_so c.rewriting-rebuild.ensures c.in-Stmt.is (one _)) c.stated_stmt.ensures
-
-pub returns-in-ModuleDecl : goal.returns-in-ModuleDecl
-returns-in-ModuleDecl c = IfOk-weaker c.stated_decl.result _ _ (λ made one. states_so c.rewriting-rebuild.ensures c.in-ModuleDecl.is one) c.stated_decl.ensures
+pub statement_of-requires : goal.statement_of-requires
+statement_of-requires c =
+    subst (λ list. (list ≡ []) ⊎ IsIn AStmt 0 list) (sym (ap (map item_of) c.deref-2.ensures.value)) (states_in c.in_ok-made.ensures)

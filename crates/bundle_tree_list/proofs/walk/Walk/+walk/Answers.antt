@@ -2,7 +2,7 @@
 use Rattle.std.proofs.Common.{ap, ◌∙◌, arith}
 use Rattle.std.proofs.lemmas.Grind.{common_steps}
 use Rattle.bundle_tree_listed.specs.Tree.{expr_items, prop_items, stmt_items}
-use Rattle.bundle_tree_list.proofs.Steps as step
+use Rattle.bundle_tree_listed.proofs.Steps as step
 use Rattle.bundle_tree_list.proofs.walk.Walk.+walk.Goals as goal
 
 pub stmt-returns-in_ok-option_block_stmt-in-TryStmt : goal.stmt-returns-in_ok-option_block_stmt-in-TryStmt

@@ -6,5 +6,5 @@ use Rattle.bundle_tree_parse.proofs.build.Builder.module.Goals as goal
 
 pub returns : goal.returns
 returns c =
-    place_built c.module_of-it.result c.leave.result module_items 0 _ _ _ _ _ _ _
+    place_built c.module_of-it.result c.leave.result module_items _ _ _ _ _ _ _ _
     (c.in_ok-node.ensures.taken AModule) c.in_ok-node.ensures.item c.module_of-it.ensures c.leave.ensures

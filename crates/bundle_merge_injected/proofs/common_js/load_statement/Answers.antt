@@ -1,0 +1,15 @@
+-- The list is that of the form, and one of the grammar.
+use Rattle.std.proofs.Common.{map, ◌∙◌}
+use Rattle.std.proofs.lemmas.Result.{IfOk-weaker}
+use Rattle.std.specs.Option.{option_map}
+use Rattle.bundle_tree_places.specs.Marks.{ident_of}
+use Rattle.bundle_merge_injected.specs.Listed.{pair_of}
+use Rattle.bundle_merge_injected.proofs.Grammar.{module_loaded, stands}
+use Rattle.bundle_merge_injected.proofs.Written.{alone}
+use Rattle.bundle_merge_injected.proofs.common_js.load_statement.Goals as goal
+
+pub make_node-requires : goal.make_node-requires
+make_node-requires c = stands _ _ (c.as_slice.ensures ∙ alone _ _ _ c.new-writer.ensures c.in_ok-load_statement.ensures) (module_loaded (ident_of c.args.load) (option_map ident_of c.args.whole) (map pair_of c.args.names.now))
+
+pub returns : goal.returns
+returns c = IfOk-weaker c.make_node.result _ _ (λ made is. is ∙ c.as_slice.ensures ∙ alone _ _ _ c.new-writer.ensures c.in_ok-load_statement.ensures) c.make_node.ensures

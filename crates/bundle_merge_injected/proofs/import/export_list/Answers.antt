@@ -1,0 +1,13 @@
+-- The list is that of the form, and one of the grammar.
+use Rattle.std.proofs.Common.{map, ◌∙◌}
+use Rattle.std.proofs.lemmas.Result.{IfOk-weaker}
+use Rattle.bundle_merge_injected.specs.Listed.{pair_of}
+use Rattle.bundle_merge_injected.proofs.Grammar.{list_exported, stands}
+use Rattle.bundle_merge_injected.proofs.Written.{alone}
+use Rattle.bundle_merge_injected.proofs.import.export_list.Goals as goal
+
+pub make_node-requires : goal.make_node-requires
+make_node-requires c = stands _ _ (c.as_slice.ensures ∙ alone _ _ _ c.new-writer.ensures c.in_ok-export_list.ensures) (list_exported (map pair_of c.args.names.now))
+
+pub returns : goal.returns
+returns c = IfOk-weaker c.make_node.result _ _ (λ made is. is ∙ c.as_slice.ensures ∙ alone _ _ _ c.new-writer.ensures c.in_ok-export_list.ensures) c.make_node.ensures

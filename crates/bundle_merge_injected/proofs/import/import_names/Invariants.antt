@@ -1,8 +1,0 @@
--- The specifiers so far are those of the names passed.
-use Rattle.std.proofs.Common.{◌≡◌, flat_map, map, take}
-use Rattle.bundle_tree_listed.specs.Tree.{import_specifier_items}
-use Rattle.bundle_merge_injected.specs.Listed.{import_specifier, pair_of}
-use Rattle.bundle_merge_injected.proofs.import.import_names.Given as goal
-
-abbrev pub invariant-loop-pair : goal.invariant-loop-pair
-invariant-loop-pair l = flat_map (import_specifier_items 0) l.specifiers.items ≡ flat_map import_specifier (map pair_of (take l.pair-index l.names))

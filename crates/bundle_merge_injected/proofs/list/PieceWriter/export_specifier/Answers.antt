@@ -1,0 +1,10 @@
+-- One part behind the other.
+use Rattle.std.proofs.lemmas.Result.{on_ok_weaker}
+use Rattle.bundle_merge_injected.proofs.Written.{behind}
+use Rattle.bundle_merge_injected.proofs.list.PieceWriter.export_specifier.Goals as goal
+
+pub returns : goal.returns
+returns c =
+    on_ok_weaker c.add-2.result
+    (λ is. behind c.args.self.now c.export_name.new.self c.add-2.new.self _ _ (behind c.args.self.now c.add.new.self c.export_name.new.self _ _ c.in_ok-add.ensures c.in_ok-export_name.ensures) is)
+    c.add-2.ensures

@@ -1,0 +1,11 @@
+-- What is made of a node that begins there, by what it holds and its end.
+use Rattle.bundle_syntax.specs.declared.piece.Role.TheVariants.{Binding}
+use Rattle.bundle_tree_listed.specs.Tree.{rest_pat_items}
+use Rattle.bundle_tree_parse.specs.Sorts.{ARestPattern}
+use Rattle.bundle_tree_parse.proofs.Parsing.{place_built}
+use Rattle.bundle_tree_parse.proofs.from_list.pats.RestPatFromList.take.Goals as goal
+
+pub returns : goal.returns
+returns c =
+    place_built c.rest_pat_of-it.result c.leave.result (rest_pat_items Binding) c.args.field _ _ _ _ _ _ _
+    (c.in_ok-node.ensures.taken (ARestPattern Binding)) c.in_ok-node.ensures.item c.rest_pat_of-it.ensures c.leave.ensures

@@ -1,7 +1,0 @@
--- Its text stays.
-use Rattle.std.proofs.Common.{◌∙◌}
-use Rattle.bundle_tree_rebuild.proofs.Leaves as leaf
-use Rattle.bundle_tree_rebuild.proofs.rebuild.Rebuild.ident_name.Goals as goal
-
-pub returns : goal.returns
-returns c = leaf.ident_name (c.in_ok-sym.ensures.ok ∙ c.as_str.ensures.value)

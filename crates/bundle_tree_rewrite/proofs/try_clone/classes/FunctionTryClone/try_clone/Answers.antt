@@ -1,8 +1,0 @@
--- Without changes all stays.
-use Rattle.std.proofs.lemmas.Result.{IfOk-weaker}
-use Rattle.bundle_tree_listed.specs.Tree.{function_items}
-use Rattle.bundle_tree_rewrite.proofs.Copying.{part_copy}
-use Rattle.bundle_tree_rewrite.proofs.try_clone.classes.FunctionTryClone.try_clone.Goals as goal
-
-pub returns : goal.returns
-returns c = IfOk-weaker c.function.result _ _ (λ made one. part_copy function_items c.copy.ensures one) c.function.ensures

@@ -1,8 +1,0 @@
--- Without changes all stays.
-use Rattle.std.proofs.lemmas.Result.{IfOk-weaker}
-use Rattle.bundle_tree_listed.specs.Tree.{rest_pat_items}
-use Rattle.bundle_tree_rewrite.proofs.Copying.{pattern_copy}
-use Rattle.bundle_tree_rewrite.proofs.try_clone.pats.RestPatTryClone.try_clone.Goals as goal
-
-pub returns : goal.returns
-returns c = IfOk-weaker c.rest_pat.result _ _ (λ made one. pattern_copy rest_pat_items c.copy.ensures one) c.rest_pat.ensures

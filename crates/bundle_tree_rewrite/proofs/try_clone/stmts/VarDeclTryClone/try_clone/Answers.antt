@@ -1,8 +1,0 @@
--- Without changes all stays.
-use Rattle.std.proofs.lemmas.Result.{IfOk-weaker}
-use Rattle.bundle_tree_listed.specs.Tree.{var_decl_items}
-use Rattle.bundle_tree_rewrite.proofs.Copying.{part_copy}
-use Rattle.bundle_tree_rewrite.proofs.try_clone.stmts.VarDeclTryClone.try_clone.Goals as goal
-
-pub returns : goal.returns
-returns c = IfOk-weaker c.var_decl.result _ _ (λ made one. part_copy var_decl_items c.copy.ensures one) c.var_decl.ensures
