@@ -24,10 +24,9 @@ use Rattle.bundle_rules.specs.Nodes.{Text, has_text, string_of}
 use Rattle.bundle_rules.specs.Bound.{is_free, is_global, has_free, top_names}
 use Rattle.bundle_rules.specs.Denotes as e
 use Rattle.bundle_rules.specs.Denotes.{denoted_of}
-use Rattle.bundle_rules.specs.Entries.{RequireCall, Settings, after, call_at, ends, is_end, linked_calls, only_argument, require_calls, require_calls_from, required_at}
+use Rattle.bundle_rules.specs.Entries.{RequireCall, Settings, after, call_at, ends, is_call, is_end, is_plain_argument, is_require_name, linked_calls, only_argument, require_calls, require_calls_from, required_at}
 use Rattle.bundle_rules.specs.Homes.{home_of, is_top, is_wrapper}
 use Rattle.bundle_rules.specs.Statements.{default_name}
-use Rattle.bundle_scope_denote.specs.declared.table.Binding.{Binding}
 use Rattle.bundle_scope_denote.specs.declared.table.Denoted.{Denoted}
 use Rattle.bundle_scope_denote.specs.declared.table.Denotations.{Denotations}
 use Rattle.bundle_scope_denote.specs.Numbers.{numbered_scope, NumberedScope}
@@ -265,9 +264,44 @@ linked_on set settings tree table free found kept on holds is marks are kept_are
     ∙ kept_alike set settings.external holds (require_calls (is_free tree) tree)
     ∙ ap (λ b. if b then filter (λ (call : RequireCall). not (has_text call.specifier settings.external)) (require_calls (is_free tree) tree) else []) (sym on)
 
--- none is linked where it is off
-pub linked_off : (settings : Settings) (tree : List Item) → settings.require ≡ false → [] ≡ linked_calls settings (is_free tree) tree
-linked_off settings tree off = ap (λ b. if b then filter (λ (call : RequireCall). not (has_text call.specifier settings.external)) (require_calls (is_free tree) tree) else []) (sym off)
+-- ---- no name `require`
+
+pub require_any : (pieces : List Piece) → list_any (λ (x : Piece). is_require_name (item_of x)) pieces ≡ list_any is_require_name (map item_of pieces)
+require_any [] = refl
+require_any (x ∷ rest) = ap (λ (b : Bool). is_require_name (item_of x) || b) (require_any rest)
+
+neither_first : (a b : Bool) → (a || b) ≡ false → a ≡ false
+neither_first true b e = absurd (false≢true (sym e))
+neither_first false b e = refl
+
+neither_second : (a b : Bool) → (a || b) ≡ false → b ≡ false
+neither_second true b e = absurd (false≢true (sym e))
+neither_second false b e = e
+
+unrequired : (items : List Item) → list_any is_require_name items ≡ false → after is_require_name items ≡ []
+unrequired [] e = refl
+unrequired (x ∷ rest) e = ap (λ (b : Bool). if b then rest else []) (neither_first (is_require_name x) (list_any is_require_name rest) e)
+
+unrequired_if : (is : Bool) (items : List Item) → list_any is_require_name items ≡ false → after is_require_name (if is then items else []) ≡ []
+unrequired_if true items e = unrequired items e
+unrequired_if false items e = refl
+
+uncalled : (x : Item) (rest : List Item) → list_any is_require_name rest ≡ false → required_at (x ∷ rest) ≡ None
+uncalled x rest e = ap (λ (items : List Item). only_argument (after is_plain_argument items)) (unrequired_if (is_call x) rest e)
+
+calls_none : (f : ℕ → Bool) (place : ℕ) (items : List Item) → list_any is_require_name items ≡ false → require_calls_from f place items ≡ []
+calls_none f place [] e = refl
+calls_none f place (x ∷ rest) e =
+    let behind = neither_second (is_require_name x) (list_any is_require_name rest) e in
+    ap (λ (o : Option Text). call_at f place o ++ require_calls_from f (suc place) rest) (uncalled x rest behind) ∙ calls_none f (suc place) rest behind
+
+-- where no calls of `require` are linked, or none has that name, there are none
+pub linked_none : (settings : Settings) (tree : List Item) → (settings.require && list_any is_require_name tree) ≡ false → [] ≡ linked_calls settings (is_free tree) tree
+linked_none settings tree = by settings.require
+  where
+    by : (b : Bool) → (b && list_any is_require_name tree) ≡ false → [] ≡ (if b then filter (λ (call : RequireCall). not (has_text call.specifier settings.external)) (require_calls (is_free tree) tree) else [])
+    by true e = sym (ap (filter (λ (call : RequireCall). not (has_text call.specifier settings.external))) (calls_none (is_free tree) 0 tree e))
+    by false e = refl
 
 -- ---- top
 

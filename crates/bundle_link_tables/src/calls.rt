@@ -1,6 +1,7 @@
 //! Literal calls of `require`.
 
 ghost use Rattle.std.specs.Prelude.{◌≡◌, ◌&&◌, ◌++◌, ◌+◌, ◌-◌, ◌<◌, ◌^◌, drop, length, map, not, filter, option_map, bytes_eq, if◌then◌else◌, [], IfOk, OnOk};
+ghost use Rattle.std.specs.List.{list_any};
 ghost use Rattle.bundle_syntax.specs.Item.{item_of};
 ghost use Rattle.bundle_rules.specs.Declarations.{BySymbol};
 ghost use Rattle.bundle_rules.specs.Scopes.{Es};
@@ -40,13 +41,44 @@ pub fn linked_calls<'a>(
         ≡ entries.linked_calls settings (bound.is_free (map item_of pieces.now))
         (map item_of pieces.now)) }
 {
-    if !require {
+    if !may_call(pieces, require) {
         return Ok(Vec::new(alloc));
     }
     let free = free_places(alloc, pieces.len(), denotations)?;
     let calls = calls_in(alloc, pieces, &free)?;
     let kept = unexternal(alloc, &calls, external)?;
     Ok(kept)
+}
+
+/// Whether literal calls of `require` may be linked: where `require` is on, and the name stands somewhere in the list.
+pub fn may_call(pieces: &[Piece], require: bool) -> bool
+    ensures { result ≡ (require && list_any is_require_name (map item_of pieces.now)) }
+{
+    require && has_require(pieces)
+}
+
+// Whether the name `require` stands in a list as what is called.
+fn has_require(pieces: &[Piece]) -> bool
+    ensures { result ≡ list_any is_require_name (map item_of pieces.now) }
+{
+    some_require(pieces)
+}
+
+// The same, asked of each element.
+fn some_require(pieces: &[Piece]) -> bool
+    ensures { result ≡ list_any (λ x. is_require_name (item_of x)) pieces.now }
+{
+    pieces.iter().any(|piece| is_require(*piece))
+}
+
+// Whether an element is the name `require`, as what is called.
+fn is_require(piece: Piece) -> bool
+    ensures { result ≡ is_require_name (item_of piece.entry) }
+{
+    match piece {
+        Piece::Ident { field, sym, .. } => field == 0 && sym == "require",
+        _ => false,
+    }
 }
 
 // Those that are of no external.
@@ -155,8 +187,8 @@ fn begins_require(pieces: &[Piece]) -> bool
     ensures { result ≡ begins is_require_name (map item_of pieces.now) }
 {
     match pieces.first() {
-        Some(Piece::Ident { field, sym, .. }) => *field == 0 && *sym == "require",
-        _ => false,
+        Some(piece) => is_require(*piece),
+        None => false,
     }
 }
 

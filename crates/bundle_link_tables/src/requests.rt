@@ -15,7 +15,7 @@ ghost use Rattle.bundle_link_tables.specs.Listed.{export_listed_as};
 ghost use Rattle.bundle_link_tables.specs.Sources.{HasTexts};
 ghost use Rattle.bundle_link_tables.specs.TablesOf.{call_entry_of, export_entry_of, fault_in};
 
-use crate::calls::linked_calls;
+use crate::calls::{linked_calls, may_call};
 use crate::faults::{first_fault, first_unlisted_fault};
 use crate::outline::{Outline, outline_of};
 use crate::table::{FileFault, RequireCall};
@@ -28,7 +28,7 @@ use std::alloc::{AllocError, Global};
 
 /// What a module asks to be loaded, each text once, or the first fault of the module by itself: what its tables tell
 /// (`tables_of`), for less. What its names denote is looked for only where something hangs on it: where a list of exports
-/// without `from` stands in it, or where literal calls of `require` are linked.
+/// without `from` stands in it, or a name `require` where literal calls of it are linked.
 pub fn requests_in<'a>(
     alloc: Global,
     pieces: &[Piece<'a>],
@@ -81,7 +81,7 @@ fn calls_in<'a>(
         MatchResult answer (λ calls. IsFaultless file (map item_of pieces.now))
         (λ fault. IsFirstTreeFault file (map item_of pieces.now) (fault_in file fault))) }
 {
-    if outline.listed.is_empty() && !require {
+    if outline.listed.is_empty() && !may_call(pieces, require) {
         return no_calls(alloc, pieces, outline);
     }
     let names = denotations(alloc, pieces, ModuleKind::Es, Reading::BySymbol)?;

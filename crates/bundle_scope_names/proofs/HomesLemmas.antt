@@ -6,7 +6,7 @@
 -- What bindings are called, once one more had its turn.
 -- Words told apart by their lengths.
 use Rattle.std.proofs.Common.{◌≡◌, ℕ, suc, List, [], ◌∷◌, ◌++◌, Option, Some, map, take, length, append-nil, refl, ap, sym, ◌∙◌, ◌==◌, Bool, true, false, cond, ◌||◌, eqb-true, eq-eqb, bytes_eq, ◌<◌, ◌≤◌, ◌+◌, ◌⊎◌, inl, inr, ⊎_elim, zero, ◌&&◌, None, subst, arith, find, unwrap_or, ap₂, not}
-use Rattle.std.specs.Prelude.{slice_get, option_and_then, MatchBool, is_some, filter}
+use Rattle.std.specs.Prelude.{slice_get, option_and_then, MatchBool, IfSome, codes, if◌then◌else◌, is_some, filter}
 use Rattle.std.specs.List.{flat_map, list_any}
 use Rattle.std.proofs.lemmas.List.{map-append, length-append, length-map, take-append-le, take_all}
 use Rattle.std.proofs.lemmas.List.Concat.{flat_map-append}
@@ -20,6 +20,7 @@ use Rattle.bundle_syntax.specs.Item.{Item}
 use Rattle.bundle_rules.specs.Places.{Occurrence, occurrences, is_binding}
 use Rattle.bundle_rules.specs.Idents.{Ident, ident_of, idents}
 use Rattle.bundle_rules.specs.Rebuilds.{Change, change_to}
+use Rattle.bundle_rules.specs.Keywords.{is_keyword}
 use Rattle.bundle_rules.specs.Nodes.{Text}
 use Rattle.bundle_rules.specs.Scopes.{Scope, Wrapper, Top, Inner, Parameters, ArrowParameters, FunctionBody, StaticBody, Block, CatchBlock, Loop, Catch, FunctionName, ClassName, scope_order, same_scope}
 use Rattle.bundle_rules.specs.Declarations.{Way, ByImport, ByVar, ByLet, ByConst, ByFunction, ByClass, ByDefault, ByLoop, ByParameter, ByCatch, ByFunctionName, ByClassName, ByWrapper, Name, contexts_agree, names_agree, Declared}
@@ -32,10 +33,10 @@ use Rattle.bundle_scope_denote.specs.declared.table.Binding.{Binding}
 use Rattle.bundle_scope_denote.proofs.InsertLemmas.{at_append, list_any-found as list_any-found_named}
 use Rattle.bundle_scope_names.specs.declared.names.Names.{Names}
 use Rattle.bundle_scope_names.specs.declared.names.ContextRule.{ContextRule}
-use Rattle.bundle_scope_names.specs.Called.{called_ident, in_context, name_changes, at, binding_text, context_of}
+use Rattle.bundle_scope_names.specs.Called.{called_ident, in_context, name_changes, at, binding_text, context_of, keyword_text}
 use Rattle.bundle_scope_names.specs.Changed.{change_next, idents_as}
 use Rattle.bundle_scope_names.specs.declared.keywords.TakenNames.{TakenNames}
-use Rattle.bundle_scope_names.specs.Fresh.{has_symbol_at, has_context, has_occurrence, collides, IsFresh, IsContextFor, ctxt_of, AreContexts, KnowsNames, AddsNames, AnswersCollision}
+use Rattle.bundle_scope_names.specs.Fresh.{is_mangled, AreMangled, has_symbol_at, has_context, has_occurrence, collides, IsFresh, IsContextFor, ctxt_of, AreContexts, KnowsNames, AddsNames, AnswersCollision}
 use Rattle.bundle_scope_names.proofs.Numbering.{Numbering, is_identified, lifted, lift_all}
 use Rattle.bundle_scope_names.specs.declared.hygiene.Hygiene.{Hygiene}
 use Rattle.bundle_scope_names.specs.Turns.{Facts, Turn, Place, binding_symbol, keeps_symbol, is_right, AreInTurn, AreCalledAfter, text_given, text_by}
@@ -158,9 +159,33 @@ name-put ctxt text old new puts its other =
 
 pub names-more : {A : Type 0} (item_of : A → Item) (pieces : List A) (i : ℕ) (x : A) (old new : TakenNames) → slice_get pieces i ≡ Some x → AddsNames (item_of x) old new → KnowsNames (map item_of (take i pieces)) old → KnowsNames (map item_of (take (suc i) pieces)) new
 names-more item_of pieces i x old new at adds known = subst (λ l. KnowsNames l new) (sym (ap (map item_of) (take_at pieces i x at) ∙ map-append item_of (take i pieces) (x ∷ []))) (record {
-  names = λ ctxt text. adds.names ctxt text ∙ ap (λ b. b || has_occurrence text ctxt (item_of x)) (known.names ctxt text) ∙ sym (any_more (has_occurrence text ctxt) (map item_of (take i pieces)) (item_of x));
+  names = λ ctxt text mangled. adds.names ctxt text mangled ∙ ap (λ b. b || has_occurrence text ctxt (item_of x)) (known.names ctxt text mangled) ∙ sym (any_more (has_occurrence text ctxt) (map item_of (take i pieces)) (item_of x));
   contexts = λ ctxt. adds.contexts ctxt ∙ ap (λ b. b || has_context ctxt (item_of x)) (known.contexts ctxt) ∙ sym (any_more (has_context ctxt) (map item_of (take i pieces)) (item_of x));
 })
+
+-- what begins as texts do that stand for reserved words is no text that does not
+pub unmangled : (text other_text : Text) → is_mangled text ≡ true → is_mangled other_text ≡ false → bytes_eq text other_text ≡ false
+unmangled text other_text is other = by (bytes_eq text other_text) refl
+  where
+    by : (b : Bool) → bytes_eq text other_text ≡ b → b ≡ false
+    by true same = absurd (false≢true (sym other ∙ ap is_mangled (sym (bytes_same text other_text same)) ∙ is))
+    by false same = refl
+
+mangled_keyword : (symbol text : Text) → keyword_text symbol ≡ Some text → is_mangled text ≡ true
+mangled_keyword symbol text = by (is_keyword symbol)
+  where
+    by : (b : Bool) → (if b then Some (codes "__" ++ symbol) else None) ≡ Some text → is_mangled text ≡ true
+    by true e = subst (λ (t : Text). is_mangled t ≡ true) (same_Some (codes "__" ++ symbol) text e) refl
+    by false e = absurd (none-some text e)
+
+pub mangled_keywords : (bindings : List Binding) → AreMangled (map (λ (binding : Binding). keyword_text binding.sym.now) bindings)
+mangled_keywords [] number text e = absurd (none-some text e)
+mangled_keywords (x ∷ rest) zero text e = mangled_keyword x.sym.now text e
+mangled_keywords (x ∷ rest) (suc number) text e = mangled_keywords rest number text e
+
+pub mangled_at : (texts : List (Option Text)) (text : Option (Bor Text)) (number : ℕ) → AreMangled texts → option_map (λ (t : Bor Text). t.now) text ≡ at texts number → IfSome text (λ t. is_mangled t.now ≡ true)
+mangled_at texts None number are e = tt
+mangled_at texts (Some text) number are e = are number text.now (sym e)
 
 -- the contexts of the first bindings
 pub record AreContextsTo (items : List Item) (bindings : List Binding) (texts : List (Option Text)) (n : ℕ) (contexts : List (Option ℕ)) (taken : TakenNames) : Type 0 where
@@ -224,7 +249,7 @@ contexts-more items bindings texts n old new context before after is answers kno
 
     by : (v : Bool) → collides items (at texts n) (ctxt_of bindings n) ≡ v → (context : Option ℕ) → AnswersCollision v before after context → AreContextsTo items bindings texts (n + 1) (old ++ context ∷ []) after
     by true e None answers = absurd answers
-    by true e (Some ctxt) answers = make (Some ctxt) (takes (Some ctxt) e (let lo = known.low in let from = answers.from in omega (arith, lo, from), sym (known.knows.contexts ctxt) ∙ answers.free)) (record { names = λ c text. ap (has_symbol_at c text) answers.names ∙ known.knows.names c text; contexts = λ c. ap (list_any (λ other. c == other)) answers.contexts ∙ known.knows.contexts c }) (let from = answers.from in let below = answers.below in omega (arith, from, below)) (λ other same. let one = same_Some ctxt other same in let from = answers.from in let below = answers.below in (omega (arith, one, from), omega (arith, one, below)))
+    by true e (Some ctxt) answers = make (Some ctxt) (takes (Some ctxt) e (let lo = known.low in let from = answers.from in omega (arith, lo, from), sym (known.knows.contexts ctxt) ∙ answers.free)) (record { names = λ c text mangled. ap (has_symbol_at c text) answers.names ∙ known.knows.names c text mangled; contexts = λ c. ap (list_any (λ other. c == other)) answers.contexts ∙ known.knows.contexts c }) (let from = answers.from in let below = answers.below in omega (arith, from, below)) (λ other same. let one = same_Some ctxt other same in let from = answers.from in let below = answers.below in (omega (arith, one, from), omega (arith, one, below)))
     by false e (Some ctxt) answers = absurd answers
     by false e None answers = make None (keeps_symbol None refl e) (subst (KnowsNames items) (sym answers) known.knows) (let same : after.next ≡ before.next = ap (λ (x : TakenNames). x.next) answers in omega (arith, same)) (λ other same. absurd (none-some other same))
 

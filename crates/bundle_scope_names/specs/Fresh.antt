@@ -1,7 +1,7 @@
 -- Contexts for bindings that get another symbol.
-use Rattle.std.specs.Prelude.{◌≡◌, ◌<◌, ◌≤◌, ℕ, ◌==◌, ◌&&◌, ◌||◌, Bool, true, false, List, Option, Some, None, bytes_eq, length, slice_get, option_and_then, MatchBool}
+use Rattle.std.specs.Prelude.{◌≡◌, ◌<◌, ◌≤◌, ℕ, ◌==◌, ◌&&◌, ◌||◌, Bool, true, false, List, Option, Some, None, bytes_eq, codes, length, nat_eq, slice_get, option_and_then, MatchBool}
 use Rattle.std.specs.Borrow.{Bor}
-use Rattle.std.specs.List.{list_any}
+use Rattle.std.specs.List.{list_any, starts_with}
 use Rattle.bundle_syntax.specs.declared.piece.Role.{Role}
 use Rattle.bundle_syntax.specs.declared.piece.Role.TheVariants as o
 use Rattle.bundle_syntax.specs.Item as h
@@ -62,16 +62,25 @@ pub record AreContexts
 abbrev pub has_symbol_at : ℕ → Text → List (ℕ × Bor Text) → Bool
 has_symbol_at ctxt text names = list_any (λ name. ctxt == name.0 && bytes_eq text name.1.now) names
 
--- which names and which contexts a list has
+-- whether a text begins as those do that stand for reserved words
+abbrev pub is_mangled : Text → Bool
+is_mangled text = starts_with nat_eq text (codes "__")
+
+-- new texts all begin so
+abbrev pub AreMangled : List (Option Text) → Type 0
+AreMangled texts =
+    (number : ℕ) (text : Text) → at texts number ≡ Some text → is_mangled text ≡ true
+
+-- which names that begin so and which contexts a list has
 pub record KnowsNames (items : List Item) (taken : TakenNames) : Type 0 where
-  pub names : (ctxt : ℕ) (text : Text) →
+  pub names : (ctxt : ℕ) (text : Text) → is_mangled text ≡ true →
       has_symbol_at ctxt text taken.names.keys ≡ list_any (has_occurrence text ctxt) items
   pub contexts : (ctxt : ℕ) →
       list_any (λ other. ctxt == other) taken.contexts.keys ≡ list_any (has_context ctxt) items
 
 -- those of an element are added
 pub record AddsNames (item : Item) (old new : TakenNames) : Type 0 where
-  pub names : (ctxt : ℕ) (text : Text) →
+  pub names : (ctxt : ℕ) (text : Text) → is_mangled text ≡ true →
       has_symbol_at ctxt text new.names.keys
       ≡ (has_symbol_at ctxt text old.names.keys || has_occurrence text ctxt item)
   pub contexts : (ctxt : ℕ) →

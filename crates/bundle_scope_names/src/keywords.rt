@@ -1,22 +1,22 @@
 //! Bindings that have a reserved word's symbol.
 
-ghost use Rattle.std.specs.Prelude.{◌≡◌, ◌==◌, ◌&&◌, ◌||◌, ℕ, None, IfOk, List, OnOk, bytes_eq, is_some, length, map, string_bytes};
+ghost use Rattle.std.specs.Prelude.{◌≡◌, ◌==◌, ◌&&◌, ◌||◌, ℕ, None, IfOk, IfSome, List, OnOk, bytes_eq, is_some, length, map, string_bytes, true};
 ghost use Rattle.std.specs.List.{list_any};
 ghost use Rattle.std.specs.Option.{option_map};
 ghost use Rattle.bundle_syntax.specs.Item.{Item, item_of};
 ghost use Rattle.bundle_rules.specs.Nodes.{Text};
 ghost use Rattle.bundle_scope_names.specs.Called.{at, keyword_text};
 ghost use Rattle.bundle_scope_names.specs.Fresh as fresh;
-ghost use Rattle.bundle_scope_names.specs.Fresh.{AddsNames, AnswersCollision as AnswersFor, AreContexts, KnowsNames, TakesNext, ctxt_of, has_symbol_at};
+ghost use Rattle.bundle_scope_names.specs.Fresh.{AddsNames, AnswersCollision as AnswersFor, AreContexts, AreMangled, KnowsNames, TakesNext, ctxt_of, has_symbol_at, is_mangled};
 
 use crate::names::Names;
 use crate::words::is_keyword;
-use bundle_scope_denote::{Binding, Denotations, Salt, salt_of};
+use bundle_scope_denote::{Binding, Denotations, Salt};
 use bundle_syntax::{Piece, Role};
 use std::alloc::{AllocError, Global};
 use std::collections::HashSet;
 
-// Which identifiers a list has, and their contexts; and the next context to try.
+// Which identifiers that begin with `__` a list has, and the contexts of all; and the next context to try.
 #[derive(Drop)]
 struct TakenNames<'a> {
     names: HashSet<(u32, &'a str), Salt>,
@@ -43,7 +43,13 @@ pub fn keyword_names<'a>(
         (map (option_map string_bytes) names.texts.items) names.contexts.items) }
 {
     let texts = texts_of(alloc, &denotations.bindings)?;
-    let contexts = contexts_of(alloc, pieces, &denotations.bindings, &texts)?;
+    let contexts = contexts_of(
+        alloc,
+        pieces,
+        &denotations.bindings,
+        &texts,
+        denotations.salt,
+    )?;
     Ok(Names { texts, contexts })
 }
 
@@ -72,13 +78,15 @@ fn free_text(alloc: Global, sym: &str) -> Result<Option<String>, AllocError>
     }
 }
 
-// The new contexts of bindings with these new texts.
+// The new contexts of bindings with these new texts. The salt is that of the list.
 fn contexts_of<'a>(
     alloc: Global,
     pieces: &[Piece<'a>],
     bindings: &[Binding<'a>],
     texts: &[Option<String>],
+    salt: Salt,
 ) -> Result<Vec<Option<u32>>, AllocError>
+    requires { AreMangled (map (option_map string_bytes) texts.now) }
     ensures { IfOk result (λ contexts.
         AreContexts (map item_of pieces.now) bindings.now (map (option_map string_bytes) texts.now)
         contexts.items) }
@@ -86,7 +94,7 @@ fn contexts_of<'a>(
     if !has_text(texts) {
         return none_of(alloc, texts.len());
     }
-    let mut taken = TakenNames::of(alloc, pieces)?;
+    let mut taken = TakenNames::of(alloc, pieces, salt)?;
     let mut contexts = Vec::new(alloc);
     for number in 0..texts.len() {
         let context = taken.context_for(text_at(texts, number), ctxt_at(bindings, number))?;
@@ -137,6 +145,13 @@ fn ctxt_at<'a>(bindings: &[Binding<'a>], number: usize) -> Option<u32>
     }
 }
 
+// Whether a symbol begins as those do that stand for reserved words.
+fn is_mangled(sym: &str) -> bool
+    ensures { result ≡ is_mangled sym.now }
+{
+    sym.starts_with("__")
+}
+
 // Whether an identifier binds or refers.
 fn occurs(role: Role) -> bool
     ensures { result ≡ fresh.occurs role }
@@ -145,13 +160,13 @@ fn occurs(role: Role) -> bool
 }
 
 impl<'a> TakenNames<'a> {
-    // Those of a list.
-    fn of(alloc: Global, pieces: &[Piece<'a>]) -> Result<TakenNames<'a>, AllocError>
+    // Those of a list with this salt.
+    fn of(alloc: Global, pieces: &[Piece<'a>], salt: Salt) -> Result<TakenNames<'a>, AllocError>
         ensures knows { IfOk result (KnowsNames (map item_of pieces.now)) }
         ensures next { IfOk result (λ taken. taken.next ≡ 2) }
     {
         let mut taken = TakenNames {
-            names: HashSet::with_hasher(alloc, salt_of(pieces)),
+            names: HashSet::with_hasher(alloc, salt),
             contexts: HashSet::new(alloc),
             next: 2,
         };
@@ -180,10 +195,11 @@ impl<'a> TakenNames<'a> {
         }
     }
 
-    // Adds a symbol with a context.
+    // Adds a context, and with it a symbol that begins with `__`.
     fn add_name(&mut self, sym: &'a str, ctxt: u32) -> Result<(), AllocError>
         ensures names { OnOk result
             ((other : ℕ) (text : Text) →
+            is_mangled text ≡ true →
             has_symbol_at other text self.new.names.keys
             ≡ (has_symbol_at other text self.old.names.keys
             || (other == ctxt && bytes_eq text sym.now))) }
@@ -193,8 +209,25 @@ impl<'a> TakenNames<'a> {
             ≡ (list_any (λ its. other == its) self.old.contexts.keys || other == ctxt)) }
         ensures next { self.new.next ≡ self.old.next }
     {
-        self.names.insert((ctxt, sym))?;
+        self.add_symbol(sym, ctxt)?;
         self.contexts.insert(ctxt)?;
+        Ok(())
+    }
+
+    // Adds a symbol with a context, if it begins with `__`.
+    fn add_symbol(&mut self, sym: &'a str, ctxt: u32) -> Result<(), AllocError>
+        ensures names { OnOk result
+            ((other : ℕ) (text : Text) →
+            is_mangled text ≡ true →
+            has_symbol_at other text self.new.names.keys
+            ≡ (has_symbol_at other text self.old.names.keys
+            || (other == ctxt && bytes_eq text sym.now))) }
+        ensures contexts { self.new.contexts ≡ self.old.contexts }
+        ensures next { self.new.next ≡ self.old.next }
+    {
+        if is_mangled(sym) {
+            self.names.insert((ctxt, sym))?;
+        }
         Ok(())
     }
 
@@ -204,6 +237,7 @@ impl<'a> TakenNames<'a> {
         text: Option<&str>,
         ctxt: Option<u32>,
     ) -> Result<Option<u32>, AllocError>
+        requires { IfSome text (λ text. is_mangled text.now ≡ true) }
         ensures { IfOk result (λ context.
             (items : List Item) →
             KnowsNames items self.old →
@@ -219,6 +253,7 @@ impl<'a> TakenNames<'a> {
 
     // Whether an identifier has a symbol with a context.
     fn collides(&self, text: Option<&str>, ctxt: Option<u32>) -> bool
+        requires { IfSome text (λ text. is_mangled text.now ≡ true) }
         ensures { (items : List Item) →
             KnowsNames items self.now →
             result ≡ fresh.collides items (option_map (λ text. text.now) text.entry) ctxt }

@@ -107,12 +107,12 @@ script_of_call name it word is_common_js items old new text is spelled print cal
 }
 
 -- behind a first line
-pub framed_of : (settings : BundleSettings) (tree : Tree) (hashbang : Option (List ℕ)) (is_common_js : Bool) (listed shown left : List Piece) (begun text : List ℕ)
-    → map item_of listed ≡ module_items 0 tree → shown ≡ listed → LeavesComments (map item_of shown) (map item_of left) → begun ≡ first_line hashbang
+pub framed_of : (settings : BundleSettings) (tree : Tree) (hashbang : Option (List ℕ)) (is_common_js : Bool) (listed left : List Piece) (begun text : List ℕ)
+    → map item_of listed ≡ module_items 0 tree → LeavesComments (map item_of listed) (map item_of left) → begun ≡ first_line hashbang
     → Appends begun text (IsBody settings is_common_js (map item_of left)) → IsFramed hashbang is_common_js settings tree text
-framed_of settings tree hashbang is_common_js listed shown left begun text whole is leaves first appends = record {
+framed_of settings tree hashbang is_common_js listed left begun text whole leaves first appends = record {
   items = map item_of left;
-  left = subst (λ (all : List Item). LeavesComments all (map item_of left)) (ap (map item_of) is ∙ whole) leaves;
+  left = subst (λ (all : List Item). LeavesComments all (map item_of left)) whole leaves;
   framed = subst (λ (front : List ℕ). Appends front text (IsBody settings is_common_js (map item_of left))) first appends;
 }
 

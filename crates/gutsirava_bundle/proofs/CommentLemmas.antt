@@ -1,38 +1,38 @@
 -- A list without some of the statements that stand for comments, as it grows.
-use Rattle.std.proofs.Common.{◌≡◌, if◌then◌else◌, Err, Ok, OnOk, Result, ◌+◌, ◌<◌, ◌≤◌, ◌++◌, ◌∙◌, ℕ, suc, get_or, List, [], ◌∷◌, append_assoc, arith, drop, length, map, subst, sym, take, ap}
+use Rattle.std.proofs.Common.{◌≡◌, if◌then◌else◌, Err, Ok, OnOk, Result, ◌+◌, ◌<◌, ◌≤◌, ◌++◌, ◌∙◌, ℕ, suc, get_or, List, [], ◌∷◌, append_assoc, arith, drop, length, map, set, subst, sym, take, ap}
 use Rattle.std.specs.Result.{is_ok}
 use Rattle.std.proofs.Math.Seq.{drop-cons}
-use Rattle.std.proofs.lemmas.List.{append-nil, at_drop_all, map-append, take-append-drop}
+use Rattle.std.proofs.lemmas.List.{append-nil, at_drop_all, drop-set-lt, map-append, take-append-drop, take_more, take_more_set}
 use Rattle.bundle_syntax.specs.Item.{Item, item_of}
 use Rattle.bundle_syntax.specs.declared.piece.Piece.{Piece as Node}
+use Rattle.bundle_syntax.specs.declared.piece.Piece.TheVariants as p
 use Rattle.gutsirava_bundle.specs.BundleText.{AddsDirective, BeginsWithComment, IsComment, IsStatement, directive, LeavesComments, nothing, same, comment}
 
 -- what is left of a list, if this is left so far and these items stand behind
 pub record LeavesSoFar (all left behind : List Item) : Type 0 where
   pub on : (more : List Item) → LeavesComments behind more → LeavesComments all (left ++ more)
 
-pub left_first : (all : List Item) (pieces : List Node) → pieces ≡ [] → LeavesSoFar all (map item_of pieces) all
-left_first all pieces none =
-    subst (λ (those : List Node). LeavesSoFar all (map item_of those) all) (sym none) (record { on = λ more leaves. leaves })
+pub left_first : (all : List Item) → LeavesSoFar all [] all
+left_first all = record { on = λ more leaves. leaves }
 
 left_same : (all left behind : List Item) (item : Item) → LeavesSoFar all left (item ∷ behind) → LeavesSoFar all (left ++ item ∷ []) behind
 left_same all left behind item before = record {
   on = λ more leaves. rw append_assoc (before.on (item ∷ more) (same item behind more leaves));
 }
 
-pub left_piece : (all : List Item) (listed pieces new : List Node) (at : ℕ) (piece : Node) → LeavesSoFar all (map item_of pieces) (map item_of (drop at listed))
-    → at < length listed → piece ≡ get_or listed at piece → new ≡ pieces ++ piece ∷ [] → LeavesSoFar all (map item_of new) (map item_of (drop (at + 1) listed))
-left_piece all listed pieces new at piece before within is pushed =
-    let cut : drop at listed ≡ get_or listed at piece ∷ drop (suc at) listed = drop-cons listed at piece within in
+pub left_moved : (all : List Item) (old new : List Node) (at kept : ℕ) → at < length old → take (kept + 1) new ≡ take kept old ++ take 1 (drop at old) → drop (at + 1) new ≡ drop (at + 1) old
+    → LeavesSoFar all (map item_of (take kept old)) (map item_of (drop at old)) → LeavesSoFar all (map item_of (take (kept + 1) new)) (map item_of (drop (at + 1) new))
+left_moved all old new at kept within moved behind before =
+    let piece : Node = get_or old at p.Close in
+    let cut : drop at old ≡ piece ∷ drop (suc at) old = drop-cons old at p.Close within in
     let one : suc at ≡ at + 1 = omega arith in
-    let next : drop (suc at) listed ≡ drop (at + 1) listed = ap (λ (n : ℕ). drop n listed) one in
-    let turned : drop at listed ≡ piece ∷ drop (at + 1) listed =
-    cut ∙ (ap (λ (first : Node). first ∷ drop (suc at) listed) (sym is) ∙ ap (λ (those : List Node). piece ∷ those) next) in
-    let grown : map item_of new ≡ map item_of pieces ++ item_of piece ∷ [] =
-    ap (map item_of) pushed ∙ map-append item_of pieces (piece ∷ []) in
-    subst (λ (left : List Item). LeavesSoFar all left (map item_of (drop (at + 1) listed))) (sym grown)
-    (left_same all (map item_of pieces) (map item_of (drop (at + 1) listed)) (item_of piece)
-    (subst (λ (those : List Node). LeavesSoFar all (map item_of pieces) (map item_of those)) turned before))
+    let next : drop (suc at) old ≡ drop (at + 1) new = ap (λ (n : ℕ). drop n old) one ∙ sym behind in
+    let turned : drop at old ≡ piece ∷ drop (at + 1) new = cut ∙ ap (λ (those : List Node). piece ∷ those) next in
+    let grown : map item_of (take (kept + 1) new) ≡ map item_of (take kept old) ++ item_of piece ∷ [] =
+    ap (map item_of) (moved ∙ ap (λ (those : List Node). take kept old ++ take 1 those) cut) ∙ map-append item_of (take kept old) (piece ∷ []) in
+    subst (λ (left : List Item). LeavesSoFar all left (map item_of (drop (at + 1) new))) (sym grown)
+    (left_same all (map item_of (take kept old)) (map item_of (drop (at + 1) new)) (item_of piece)
+    (subst (λ (those : List Node). LeavesSoFar all (map item_of (take kept old)) (map item_of those)) turned before))
 
 pub left_comment : (all left items behind : List Item) → BeginsWithComment items behind → LeavesSoFar all left items → LeavesSoFar all left behind
 left_comment all left items behind begins before = record {
@@ -46,6 +46,26 @@ left_end all left listed at past before =
     let none : map item_of (drop at listed) ≡ [] = at_drop_all (λ (those : List Node). map item_of those) listed at past in
     let last : LeavesSoFar all left [] = subst (LeavesSoFar all left) none before in
     subst (LeavesComments all) (append-nil left) (last.on [] nothing)
+
+-- ---- a piece moves up
+
+one_at : (pieces : List Node) (at : ℕ) (d : Node) → at < length pieces → take 1 (drop at pieces) ≡ get_or pieces at d ∷ []
+one_at pieces at d within = ap (take 1) (drop-cons pieces at d within)
+
+pub moved_up : (old new : List Node) (from to : ℕ) (piece : Node) → to < from → from < length old → piece ≡ get_or old from piece → new ≡ set old to piece → take (to + 1) new ≡ take to old ++ take 1 (drop from old)
+moved_up old new from to piece up within is moves =
+    ap (take (to + 1)) moves
+    ∙ (take_more_set old to piece (omega arith)
+    ∙ ap (λ (those : List Node). take to old ++ those) (ap (λ (one : Node). one ∷ []) is ∙ sym (one_at old from piece within)))
+
+pub moved_behind : (old new : List Node) (from to : ℕ) (piece : Node) → to < from → new ≡ set old to piece → drop (from + 1) new ≡ drop (from + 1) old
+moved_behind old new from to piece up moves = ap (drop (from + 1)) moves ∙ drop-set-lt (from + 1) old to piece (omega arith)
+
+pub stays_there : (old : List Node) (from to : ℕ) → to ≡ from → from < length old → take (to + 1) old ≡ take to old ++ take 1 (drop from old)
+stays_there old from to is within =
+    let inside : to < length old = omega arith in
+    take_more old to p.Close inside
+    ∙ ap (λ (those : List Node). take to old ++ those) (sym (ap (λ (n : ℕ). take 1 (drop n old)) (sym is) ∙ one_at old to p.Close inside))
 
 -- the four pieces of a comment
 pub comment_of_pieces : (listed : List Node) (at : ℕ) (a b : Node) → at + 4 ≤ length listed → a ≡ get_or listed at a → b ≡ get_or listed (at + 1) b

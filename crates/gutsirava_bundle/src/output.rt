@@ -1,6 +1,6 @@
 //! The text of a bundle.
 
-ghost use Rattle.std.specs.Prelude.{◌≡◌, ◌+◌, ◌<◌, ◌≤◌, ◌⊎◌, ◌++◌, [], drop, length, IfOk, OnOk, IfSome, IsTrue, ◌==◌, codes, false, true, map, option_map, string_bytes};
+ghost use Rattle.std.specs.Prelude.{◌≡◌, ◌+◌, ◌<◌, ◌≤◌, ◌⊎◌, ◌++◌, [], drop, length, IfOk, OnOk, IfSome, IsTrue, ◌==◌, codes, false, true, map, option_map, string_bytes, take};
 ghost use Rattle.std.specs.List.{list_any};
 ghost use Rattle.bundle_syntax.specs.Item.{item_of};
 ghost use Rattle.gutsirava_bundle.specs.BundleText.{first_line, AddsDirective, Appends, BeginsWithComment, IsBody, IsCall, IsComment, IsFramed, IsModuleBody, IsScriptBody, IsStatement, LeavesComments, directive};
@@ -80,7 +80,7 @@ pub(crate) fn text_of<'a>(
         settings.now tree.now (string_bytes body.text)) }
 {
     let listed = pieces_of_module(alloc, tree)?;
-    let list = without_comments(alloc, listed.as_slice())?;
+    let list = without_comments(alloc, listed)?;
     let mut text = begun(alloc, frame.hashbang)?;
     let printed = push_body(alloc, &mut text, list, settings, frame.is_common_js)?;
     let PrintedBody { pieces, places } = printed;
@@ -262,29 +262,47 @@ fn owners_of(alloc: Global, name: &str) -> Result<String, AllocError>
     Ok(text)
 }
 
-// A list without the statements that stand for comments.
-#[tactic(auto, using(std::proofs::lemmas::Grind::common_steps, crate::proofs::CommentLemmas::left_first, crate::proofs::CommentLemmas::left_piece, crate::proofs::CommentLemmas::left_comment, crate::proofs::CommentLemmas::left_end))]
+// A list without the statements that stand for comments: what stays moves up in it.
+#[tactic(auto, using(std::proofs::lemmas::Grind::common_steps, crate::proofs::CommentLemmas::left_first, crate::proofs::CommentLemmas::left_moved, crate::proofs::CommentLemmas::left_comment, crate::proofs::CommentLemmas::left_end))]
 fn without_comments<'a>(
     alloc: Global,
-    listed: &[Piece<'a>],
+    listed: Vec<Piece<'a>>,
 ) -> Result<CommentedList<'a>, AllocError>
     ensures { IfOk result (λ list.
-        LeavesComments (map item_of listed.now) (map item_of list.pieces.items)) }
+        LeavesComments (map item_of listed.entry.items) (map item_of list.pieces.items)) }
 {
-    let mut pieces = Vec::with_capacity(alloc, listed.len())?;
+    let mut pieces = listed;
     let mut comments = Vec::new(alloc);
+    let mut kept = 0;
     let mut at = 0;
-    while at < listed.len() {
-        if let Some(text) = comment_at(listed, at) {
-            let piece = u32::try_from(pieces.len()).unwrap_or(u32::MAX);
+    while at < pieces.len() {
+        if let Some(text) = comment_at(pieces.as_slice(), at) {
+            let piece = u32::try_from(kept).unwrap_or(u32::MAX);
             comments.push(LeadingComment { piece, text })?;
             at += 4;
         } else {
-            pieces.push(listed[at])?;
+            move_up(&mut pieces, at, kept);
+            kept += 1;
             at += 1;
         }
     }
+    pieces.truncate(kept);
     Ok(CommentedList { pieces, comments })
+}
+
+// Moves the piece at a place to another before it, or leaves it where it is.
+#[tactic(auto, using(std::proofs::lemmas::Grind::common_steps, crate::proofs::CommentLemmas::moved_up, crate::proofs::CommentLemmas::moved_behind, crate::proofs::CommentLemmas::stays_there))]
+fn move_up(pieces: &mut Vec<Piece<'_>>, from: usize, to: usize)
+    requires up { to ≤ from }
+    requires within { from < length pieces.old.items }
+    ensures moved { take (to + 1) pieces.new.items
+        ≡ take to pieces.old.items ++ take 1 (drop from pieces.old.items) }
+    ensures behind { drop (from + 1) pieces.new.items ≡ drop (from + 1) pieces.old.items }
+    ensures same { length pieces.new.items ≡ length pieces.old.items }
+{
+    if to < from {
+        pieces[to] = pieces[from];
+    }
 }
 
 // The comment for which the statement at a place stands. It has four pieces.

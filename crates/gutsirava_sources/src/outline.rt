@@ -5,9 +5,9 @@ ghost use Rattle.gutsirava_sources.specs.Outline.{IsRequest, literal_at, part_te
 ghost use Rattle.gutsirava_sources.specs.Places as places;
 ghost use Rattle.std.specs.List.Sorted.{IsNonDecreasing};
 
-use crate::pieces::{contains, end_of, is_end, is_key, is_member, is_meta, is_name, node_at};
+use crate::pieces::{contains, end_of, is_end, is_key, is_member, is_name, node_at};
 use bundle_scope_denote::{Denoted, ModuleKind, Reading, denotations};
-use bundle_syntax::{Node, Piece};
+use bundle_syntax::{MetaPropKind, Node, Piece};
 use std::alloc::{AllocError, Global};
 
 /// How another module is asked for.
@@ -86,17 +86,69 @@ struct Around {
 pub fn outline_of<'a>(alloc: Global, pieces: &[Piece<'a>]) -> Result<SourceOutline<'a>, AllocError>
     ensures { IfOk result (λ outline. All (IsRequest pieces.now) outline.requests.items) }
 {
-    let free = free_names(alloc, pieces)?;
+    let signs = signs_of(pieces);
+    let free = free_names(alloc, pieces, signs.has_common_js_name)?;
     let mains = mains_of(alloc, pieces, free.as_slice())?;
     let walk = walk_of(alloc, pieces, free.as_slice())?;
     Ok(SourceOutline {
         requests: walk.requests,
-        has_declarations: has_declaration(pieces),
-        meta: first_meta(pieces),
+        has_declarations: signs.has_declarations,
+        meta: signs.meta,
         names_common_js: !free.is_empty(),
         unknown: walk.unknown,
         mains,
     })
+}
+
+// What single pieces of a module tell.
+#[derive(Clone, Copy)]
+struct PieceSigns {
+    // Whether it has an import or an export.
+    has_declarations: bool,
+    // The place of its first `import.meta`.
+    meta: Option<usize>,
+    // Whether a `require`, `module` or `exports` stands in it.
+    has_common_js_name: bool,
+}
+
+// What the pieces of a module tell, each by itself.
+fn signs_of(pieces: &[Piece<'_>]) -> PieceSigns {
+    let mut signs = PieceSigns {
+        has_declarations: false,
+        meta: None,
+        has_common_js_name: false,
+    };
+    for (at, piece) in pieces.iter().enumerate() {
+        match piece {
+            Piece::Open { node, .. } => signs = signs.with_node(*node, at),
+            Piece::Ident {
+                sym: "require" | "module" | "exports",
+                ..
+            } => signs.has_common_js_name = true,
+            _ => {}
+        }
+    }
+    signs
+}
+
+impl PieceSigns {
+    // What the node that begins at a place tells too.
+    fn with_node(self, node: Node<'_>, at: usize) -> PieceSigns {
+        let mut signs = self;
+        match node {
+            Node::ImportDecl { .. }
+            | Node::NamedExport { .. }
+            | Node::ExportAll { .. }
+            | Node::ExportDecl
+            | Node::ExportDefaultDecl
+            | Node::ExportDefaultExpr => signs.has_declarations = true,
+            Node::MetaPropExpr {
+                kind: MetaPropKind::ImportMeta,
+            } => signs.meta = signs.meta.or(Some(at)),
+            _ => {}
+        }
+        signs
+    }
 }
 
 // A walk over the pieces of a module.
@@ -154,26 +206,6 @@ impl<'a> RequestWalk<'a> {
 // Whether a node begins at a place.
 fn begins_node(pieces: &[Piece<'_>], at: usize) -> bool {
     matches!(pieces.get(at), Some(Piece::Open { .. }))
-}
-
-// Whether a module has an import or an export.
-fn has_declaration(pieces: &[Piece<'_>]) -> bool {
-    for at in 0..pieces.len() {
-        if is_declaration(node_at(pieces, at)) {
-            return true;
-        }
-    }
-    false
-}
-
-// The place of the first `import.meta`.
-fn first_meta(pieces: &[Piece<'_>]) -> Option<usize> {
-    for at in 0..pieces.len() {
-        if is_meta(pieces, at) {
-            return Some(at);
-        }
-    }
-    None
 }
 
 // The last of these nodes, all of which begin before a place.
@@ -255,21 +287,6 @@ fn turn_into(node: Option<Node<'_>>, is_tried: bool) -> Turn {
         ) => Turn::In(Sort::Other, false),
         _ => Turn::In(Sort::Other, is_tried),
     }
-}
-
-// Whether a node is an import or an export.
-fn is_declaration(node: Option<Node<'_>>) -> bool {
-    matches!(
-        node,
-        Some(
-            Node::ImportDecl { .. }
-                | Node::NamedExport { .. }
-                | Node::ExportAll { .. }
-                | Node::ExportDecl
-                | Node::ExportDefaultDecl
-                | Node::ExportDefaultExpr
-        )
-    )
 }
 
 // Adds the request of the node that begins at a place, if it is one.
@@ -493,9 +510,14 @@ fn is_main_read(pieces: &[Piece<'_>], at: usize, free: &[usize]) -> bool {
         && contains(free, object)
 }
 
-// The places of `require`, `module` and `exports` where nothing binds them, ascending.
-fn free_names(alloc: Global, pieces: &[Piece<'_>]) -> Result<Vec<usize>, AllocError> {
-    if !has_common_js_name(pieces) {
+// The places of `require`, `module` and `exports` where nothing binds them, ascending; none where none of them stands
+// in the list.
+fn free_names(
+    alloc: Global,
+    pieces: &[Piece<'_>],
+    has_common_js_name: bool,
+) -> Result<Vec<usize>, AllocError> {
+    if !has_common_js_name {
         return Ok(Vec::new(alloc));
     }
     let names = denotations(alloc, pieces, ModuleKind::Es, Reading::BySymbol)?;
@@ -516,15 +538,6 @@ fn free_among(
     }
     places.sort_unstable();
     Ok(places)
-}
-
-fn has_common_js_name(pieces: &[Piece<'_>]) -> bool {
-    for at in 0..pieces.len() {
-        if is_common_js_name(pieces, at) {
-            return true;
-        }
-    }
-    false
 }
 
 fn is_common_js_name(pieces: &[Piece<'_>], at: usize) -> bool {

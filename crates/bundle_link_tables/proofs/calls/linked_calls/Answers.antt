@@ -1,21 +1,22 @@
--- None is linked where `require` is off, and else those of no external.
+-- None is linked where none may be, and else those of no external.
 use Rattle.std.proofs.Common.{◌&&◌, ltb, ap, sym, ◌∙◌, map, bytes_eq, not, rules}
 use Rattle.std.specs.Prelude.{filter}
 use Rattle.std.specs.List.{list_any}
 use Rattle.std.proofs.lemmas.List.{length-map}
 use Rattle.bundle_syntax.specs.Item.{item_of}
 use Rattle.std.specs.Borrow.{Bor}
-use Rattle.bundle_rules.specs.Entries.{RequireCall, require_calls}
+use Rattle.bundle_rules.specs.Entries.{RequireCall, is_require_name, require_calls}
 use Rattle.bundle_rules.specs.Nodes.{Text}
 use Rattle.bundle_link_tables.specs.Free.{frees, is_place_marked}
 use Rattle.bundle_link_tables.specs.TablesOf.{call_entry_of}
-use Rattle.bundle_link_tables.proofs.CallLemmas.{linked_off, linked_on}
+use Rattle.bundle_link_tables.proofs.CallLemmas.{linked_none, linked_on}
 use Rattle.bundle_link_tables.proofs.calls.linked_calls.Goals as goal
 use Rattle.indexmap.specs.IndexSet.{contains_by}
 
-pub returns-then-not-require : goal.returns-then-not-require
-returns-then-not-require c = λ settings same holds is.
-    ap (map call_entry_of) c.new.ensures.items ∙ linked_off settings (map item_of c.args.pieces.now) (same ∙ (search rules))
+pub returns-then-not-may_call : goal.returns-then-not-may_call
+returns-then-not-may_call c = λ settings same holds is.
+    let items = map item_of c.args.pieces.now in
+    ap (map call_entry_of) c.new.ensures.items ∙ linked_none settings items (ap (λ b. b && list_any is_require_name items) same ∙ sym c.if-not-may_call.ensures)
 
 pub returns : goal.returns
 returns c = λ settings same holds is.

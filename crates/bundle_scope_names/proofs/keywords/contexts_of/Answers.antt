@@ -8,7 +8,7 @@ use Rattle.bundle_syntax.specs.Item.{Item, item_of}
 use Rattle.bundle_rules.specs.Nodes.{Text}
 use Rattle.bundle_scope_names.specs.Called.{at}
 use Rattle.bundle_scope_names.specs.Fresh.{AnswersCollision, collides, ctxt_of}
-use Rattle.bundle_scope_names.proofs.HomesLemmas.{contexts-more, contexts-last, contexts-none}
+use Rattle.bundle_scope_names.proofs.HomesLemmas.{contexts-more, contexts-last, contexts-none, mangled_at}
 use Rattle.bundle_scope_names.proofs.keywords.contexts_of.Goals as goal
 
 both-ok : {T E : Type 0} (P Q R : T → Type 0) → ((x : T) → P x → Q x → R x) → (r : Result T E) → IfOk r P → IfOk r Q → IfOk r R
@@ -17,6 +17,9 @@ both-ok P Q R f (Err e) p q = p
 
 pub returns-then-not-has_text : goal.returns-then-not-has_text
 returns-then-not-has_text c = both-ok _ _ _ (λ (contexts : Vec (Option ℕ) Global) len none. contexts-none string_bytes (map item_of c.args.pieces.now) c.args.bindings.now c.args.texts.now contexts.items (sym c.if-not-has_text.ensures) len none) c.none_of.result c.none_of.ensures.len c.none_of.ensures.none
+
+pub context_for-requires : goal.context_for-requires
+context_for-requires c = mangled_at (map (option_map string_bytes) c.args.texts.now) c.text_at.result c.loop-number.number c.requires c.text_at.ensures
 
 pub loop-number-preserved : goal.loop-number-preserved
 loop-number-preserved c =
