@@ -71,6 +71,8 @@ const shapes = {
   conditions: [1000, (n) => packaged({ exports: { '.': { ...named(n, (at) => [`c${at}`, './no.js']), default: './i.js' } } }, ['i.js'], `import 'p';`)],
   export_names: [200, (n) => packaged({ exports: named(n, (at) => [`./x${at}`, './i.js']) }, ['i.js'], lines(n, (at) => `import 'p/x${at}';`))],
   export_patterns: [200, (n) => packaged({ exports: named(n, (at) => [`./x${at}/*`, './i.js']) }, ['i.js'], lines(n, (at) => `import 'p/x${at}/q';`))],
+  export_conditions: [200, (n) => packaged({ exports: { './*': { ...named(n, (at) => [`c${at}`, './no.js']), default: './i.js' } } }, ['i.js'], lines(n, (at) => `import 'p/x${at}';`))],
+  export_alternatives: [200, (n) => packaged({ exports: { './*': [...upTo(n, () => 'no'), './i.js'] } }, ['i.js'], lines(n, (at) => `import 'p/x${at}';`))],
   browser_map: [200, (n) => packaged({ browser: named(n, (at) => [`./f${at}.js`, './i.js']) }, ['i.js'], lines(n, (at) => `import 'p/f${at}.js';`), '--platform=browser')],
   left: [500, (n) => ({ ...text(lines(n, (at) => `import a${at} from 'p${at}'; a${at};`)), words: ['--external=*'] })],
   // What is refused.

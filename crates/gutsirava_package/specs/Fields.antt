@@ -1,5 +1,5 @@
 -- What the fields of a package.json say.
-use Rattle.std.specs.Prelude.{ℕ, not, nat_eq, Bool, true, false, List, [], ◌∷◌, Option, Some, None, drop, codes, if◌then◌else◌}
+use Rattle.std.specs.Prelude.{ℕ, not, nat_eq, Bool, false, List, [], ◌∷◌, Option, Some, None, drop, codes, if◌then◌else◌}
 use Rattle.std.specs.List.{starts_with}
 use Rattle.std.specs.Option.{option_and_then}
 use Rattle.std.specs.Str.{bytes_eq}

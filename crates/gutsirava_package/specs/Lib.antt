@@ -1,4 +1,9 @@
+pub mod Browser
+pub mod Entries
 pub mod Fields
+pub mod Gives
+pub mod Keys
+pub mod Lengths
 pub mod Located
 pub mod Patterns
 pub mod Read

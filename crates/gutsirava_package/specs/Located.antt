@@ -1,11 +1,9 @@
 -- Where a target leads.
-use Rattle.std.specs.Prelude.{◌≡◌, ◌-◌, ◌==◌, ◌||◌, nat_eq, ℕ, Bool, true, false, List, length, slice_index, codes, string_bytes}
+use Rattle.std.specs.Prelude.{◌≡◌, ◌-◌, ◌==◌, ◌||◌, nat_eq, ℕ, Bool, true, false, List, Option, Some, None, length, slice_index, codes, string_bytes}
 use Rattle.std.specs.List.{starts_with}
 use Rattle.std.specs.Str.{bytes_eq}
 use Rattle.gutsirava_package.specs.declared.lookup.Located.{Located}
 use Rattle.gutsirava_package.specs.declared.lookup.Located.TheVariants.{Inside, Bare}
-use Rattle.gutsirava_package.specs.declared.lookup.TargetOutcome.{TargetOutcome}
-use Rattle.gutsirava_package.specs.declared.lookup.TargetOutcome.TheVariants.{Found, Null, Nothing}
 
 -- whether an address begins with `./`
 abbrev pub is_inner : List ℕ → Bool
@@ -22,11 +20,10 @@ IsInside (Inside address) = is_inner (string_bytes address) ≡ true
 IsInside (Bare specifier) = ⊥
 
 -- nowhere else, but from `imports`
-abbrev pub IsInsideOf : Bool → TargetOutcome → Type 0
-IsInsideOf true (Found located) = IsPlace located
-IsInsideOf false (Found located) = IsInside located
-IsInsideOf from_imports Null = Unit {0}
-IsInsideOf from_imports Nothing = Unit {0}
+abbrev pub IsInsideOf : Bool → Option Located → Type 0
+IsInsideOf true (Some located) = IsPlace located
+IsInsideOf false (Some located) = IsInside located
+IsInsideOf from_imports None = Unit {0}
 
 -- whether a name is none of an entry of `imports`
 abbrev pub is_no_import : List ℕ → Bool

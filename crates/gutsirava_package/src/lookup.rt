@@ -1,13 +1,14 @@
 //! Which file of a package an entry of `exports` or `imports` names: PACKAGE_EXPORTS_RESOLVE, PACKAGE_IMPORTS_RESOLVE
 //! and PACKAGE_TARGET_RESOLVE of Node's documentation.
-ghost use Rattle.std.specs.Prelude.{◌≡◌, ◌⊎◌, false, true, IfOk, IsSome, OnOk, string_bytes};
+ghost use Rattle.std.specs.Prelude.{◌≡◌, ◌++◌, false, true, IfOk, IsSome, OnOk, Some, codes, option_map, string_bytes};
+ghost use Rattle.gutsirava_package.specs.Entries.{given, shown, with_star};
+ghost use Rattle.gutsirava_package.specs.Gives.{Gives};
 ghost use Rattle.gutsirava_package.specs.Located.{IsInside, IsInsideOf, IsPlace, is_inner, is_no_import};
 
 use crate::package::Package;
-use crate::patterns::best_pattern;
 use crate::segments::has_forbidden_part;
-use crate::target::PackageTarget;
-use gutsirava_path::{Loader, Specifier};
+use crate::target::{SettledTarget, TargetOutcome};
+use gutsirava_path::Loader;
 use std::alloc::{AllocError, Global};
 use std::fmt;
 
@@ -113,7 +114,7 @@ impl TargetFault {
 
 impl TargetError {
     /// What is wrong with these texts; where memory is refused for them, that.
-    fn of(alloc: Global, fault: TargetFault, key: &str, other: &str) -> TargetError {
+    pub(crate) fn of(alloc: Global, fault: TargetFault, key: &str, other: &str) -> TargetError {
         match (String::from_str(alloc, key), String::from_str(alloc, other)) {
             (Ok(key), Ok(other)) => TargetError::Fault { fault, key, other },
             _ => TargetError::Memory(AllocError),
@@ -143,24 +144,15 @@ impl From<AllocError> for TargetError {
     }
 }
 
-/// What a target gives: something, an end (`null`), or nothing, so that the next condition is tried.
-#[derive(Drop)]
-enum TargetOutcome {
-    Found(Located),
-    Null,
-    Nothing,
-}
-
-/// One look-up: for which entry, and under which conditions.
+/// One look-up: for which entry.
 #[derive(Clone, Copy)]
-struct Lookup<'a> {
-    alloc: Global,
-    conditions: &'a [String],
-    key: &'a str,
+pub(crate) struct Lookup<'a> {
+    pub(crate) alloc: Global,
+    pub(crate) key: &'a str,
     /// What the key's `*` stands for.
-    star: Option<&'a str>,
+    pub(crate) star: Option<&'a str>,
     /// Whether it is in `imports`, where a target may be a package.
-    is_import: bool,
+    pub(crate) is_import: bool,
 }
 
 impl Package {
@@ -170,22 +162,18 @@ impl Package {
         &self,
         alloc: Global,
         subpath: &str,
-        conditions: &[String],
+        loader: Loader,
     ) -> Result<Located, TargetError>
-        ensures { IfOk result IsInside }
+        ensures inside { IfOk result IsInside }
+        ensures entry { IfOk result (Gives self.now.exports subpath.now loader) }
     {
-        let outcome = match &self.exports {
-            None => TargetOutcome::Nothing,
-            Some(exports) => find_export(alloc, exports, subpath, conditions)?,
+        let found = match &self.exports {
+            Some(exports) => exports.find(alloc, subpath, loader, false)?,
+            None => None,
         };
-        match outcome {
-            TargetOutcome::Found(located) => Ok(located),
-            TargetOutcome::Null | TargetOutcome::Nothing => Err(TargetError::of(
-                alloc,
-                TargetFault::NotExported,
-                subpath,
-                "",
-            )),
+        match found {
+            Some(located) => Ok(located),
+            None => Err(TargetError::of(alloc, TargetFault::NotExported, subpath, "")),
         }
     }
 
@@ -194,27 +182,23 @@ impl Package {
         &self,
         alloc: Global,
         name: &str,
-        conditions: &[String],
+        loader: Loader,
     ) -> Result<Located, TargetError>
         ensures named { OnOk result (is_no_import name.now ≡ false) }
         ensures has_entries { OnOk result (IsSome self.now.imports) }
         ensures place { IfOk result IsPlace }
+        ensures entry { IfOk result (Gives self.now.imports name.now loader) }
     {
         if is_no_import(name) {
             return Err(TargetError::of(alloc, TargetFault::InvalidImportName, name, ""));
         }
-        let outcome = match &self.imports {
-            Some(imports) => find_import(alloc, imports, name, conditions)?,
-            None => TargetOutcome::Nothing,
+        let found = match &self.imports {
+            Some(imports) => imports.find(alloc, name, loader, true)?,
+            None => None,
         };
-        match outcome {
-            TargetOutcome::Found(located) => Ok(located),
-            TargetOutcome::Null | TargetOutcome::Nothing => Err(TargetError::of(
-                alloc,
-                TargetFault::ImportNotDefined,
-                name,
-                "",
-            )),
+        match found {
+            Some(located) => Ok(located),
+            None => Err(TargetError::of(alloc, TargetFault::ImportNotDefined, name, "")),
         }
     }
 }
@@ -226,225 +210,49 @@ fn is_no_import(name: &str) -> bool
     name == "#" || name.starts_with("#/") || name.ends_with('/')
 }
 
-/// What `imports` gives.
-fn find_import<'a>(
-    alloc: Global,
-    imports: &'a PackageTarget,
-    name: &'a str,
-    conditions: &'a [String],
-) -> Result<TargetOutcome, TargetError>
-    ensures { IfOk result (IsInsideOf true) }
-{
-    match imports {
-        PackageTarget::Object(entries) => find_entry(alloc, entries, name, conditions, true),
-        _ => Ok(TargetOutcome::Nothing),
-    }
-}
-
-/// What `exports` gives: a map of subpaths, or what the package itself stands for.
-fn find_export<'a>(
-    alloc: Global,
-    exports: &'a PackageTarget,
-    subpath: &'a str,
-    conditions: &'a [String],
-) -> Result<TargetOutcome, TargetError>
-    ensures { IfOk result (IsInsideOf false) }
-{
-    if let PackageTarget::Object(entries) = exports {
-        if has_subpaths(alloc, entries)? {
-            if subpath.ends_with('/') || subpath.contains('*') {
-                return find_pattern(alloc, entries, subpath, conditions, false);
-            }
-            return find_entry(alloc, entries, subpath, conditions, false);
-        }
-    }
-    if subpath != "." || matches!(exports, PackageTarget::Other) {
-        return Ok(TargetOutcome::Nothing);
-    }
-    let lookup = Lookup {
-        alloc,
-        conditions,
-        key: subpath,
-        star: None,
-        is_import: false,
-    };
-    lookup.resolve(exports)
-}
-
-/// Whether the keys are subpaths, which begin with `.`, and not conditions.
-fn has_subpaths(alloc: Global, entries: &[(String, PackageTarget)]) -> Result<bool, TargetError> {
-    let mut has_subpath = false;
-    let mut has_condition = false;
-    for (key, _) in entries {
-        if key.as_str().starts_with('.') {
-            has_subpath = true;
-        } else {
-            has_condition = true;
-        }
-    }
-    if has_subpath && has_condition {
-        return Err(TargetError::of(alloc, TargetFault::MixedKeys, "", ""));
-    }
-    Ok(!has_condition)
-}
-
-/// The entry of that very key, or else the best pattern.
-fn find_entry<'a>(
-    alloc: Global,
-    entries: &'a [(String, PackageTarget)],
-    name: &'a str,
-    conditions: &'a [String],
-    is_import: bool,
-) -> Result<TargetOutcome, TargetError>
-    ensures { IfOk result (IsInsideOf is_import) }
-{
-    let Some(target) = own_target(entries, name) else {
-        return find_pattern(alloc, entries, name, conditions, is_import);
-    };
-    let lookup = Lookup {
-        alloc,
-        conditions,
-        key: name,
-        star: None,
-        is_import,
-    };
-    lookup.resolve(target)
-}
-
-/// The target of the entry of that very key, which is no pattern.
-fn own_target<'a>(entries: &'a [(String, PackageTarget)], name: &str) -> Option<&'a PackageTarget> {
-    if name.contains('*') {
-        return None;
-    }
-    for (key, target) in entries {
-        if key.as_str() == name {
-            return Some(target);
-        }
-    }
-    None
-}
-
-/// The entry of the best pattern.
-fn find_pattern<'a>(
-    alloc: Global,
-    entries: &'a [(String, PackageTarget)],
-    name: &'a str,
-    conditions: &'a [String],
-    is_import: bool,
-) -> Result<TargetOutcome, TargetError>
-    ensures { IfOk result (IsInsideOf is_import) }
-{
-    let Some(found) = best_pattern(entries, name) else {
-        return Ok(TargetOutcome::Nothing);
-    };
-    let lookup = Lookup {
-        alloc,
-        conditions,
-        key: found.key,
-        star: Some(found.star),
-        is_import,
-    };
-    lookup.resolve(found.target)
-}
-
 impl Lookup<'_> {
-    /// What a target gives under the conditions. It nests 128 levels at most.
-    #[cycle(lookups)]
-    fn resolve(&self, target: &PackageTarget) -> Result<TargetOutcome, TargetError>
-        ensures { IfOk result (IsInsideOf self.now.is_import) }
+    /// What a target gives.
+    pub(crate) fn locate(&self, target: &SettledTarget) -> Result<Option<Located>, TargetError>
+        ensures inside { IfOk result (IsInsideOf self.now.is_import) }
+        ensures gives { IfOk result (λ located.
+            given target.now (option_map (λ star. star.now) self.now.star)
+            ≡ Some (option_map shown located)) }
     {
-        match target {
-            PackageTarget::Text(text) => Ok(TargetOutcome::Found(self.locate(text.as_str())?)),
-            PackageTarget::Object(entries) => {
-                self.check_conditions(entries.as_slice())?;
-                self.resolve_conditions(entries)
-            }
-            PackageTarget::Alternatives(targets) => self.resolve_alternatives(targets),
-            PackageTarget::Null => Ok(TargetOutcome::Null),
-            PackageTarget::Other => Err(self.invalid_target("a number or a truth value")),
-        }
-    }
-
-    /// The first condition that holds and gives something.
-    #[cycle(lookups)]
-    fn resolve_conditions(
-        &self,
-        entries: &Vec<(String, PackageTarget)>,
-    ) -> Result<TargetOutcome, TargetError>
-        ensures { IfOk result (IsInsideOf self.now.is_import) }
-    {
-        for (condition, target) in entries {
-            if !self.holds(condition.as_str()) {
-                continue;
-            }
-            match self.resolve(target)? {
-                TargetOutcome::Nothing => {}
-                outcome => return Ok(outcome),
-            }
-        }
-        Ok(TargetOutcome::Nothing)
-    }
-
-    /// The first member that gives something; where none does, what the last one was.
-    #[cycle(lookups)]
-    fn resolve_alternatives(
-        &self,
-        targets: &Vec<PackageTarget>,
-    ) -> Result<TargetOutcome, TargetError>
-        ensures { IfOk result (IsInsideOf self.now.is_import) }
-    {
-        if targets.is_empty() {
-            return Ok(TargetOutcome::Null);
-        }
-        let mut last = Ok(TargetOutcome::Nothing);
-        for target in targets {
-            let outcome = self.resolve(target);
-            if is_end(&outcome) {
-                return outcome;
-            }
-            last = later(last, outcome);
-        }
-        last
-    }
-
-    fn holds(&self, condition: &str) -> bool {
-        condition == "default" || self.conditions.iter().any(|c| c.as_str() == condition)
-    }
-
-    /// No condition is a number.
-    fn check_conditions(&self, entries: &[(String, PackageTarget)]) -> Result<(), TargetError> {
-        for (condition, _) in entries {
-            if is_array_index(condition.as_str()) {
+        let text = target.text.as_str();
+        match target.outcome {
+            TargetOutcome::Text => Ok(Some(self.locate_text(text)?)),
+            TargetOutcome::Null | TargetOutcome::Nothing => Ok(None),
+            TargetOutcome::Invalid => Err(self.invalid_target(text)),
+            TargetOutcome::Numeric => {
                 let fault = TargetFault::NumericCondition;
-                return Err(TargetError::of(self.alloc, fault, self.key, condition.as_str()));
+                Err(TargetError::of(self.alloc, fault, self.key, text))
             }
         }
-        Ok(())
     }
 
-    /// What a text names.
-    fn locate(&self, text: &str) -> Result<Located, TargetError>
+    /// What a text names that is a target.
+    fn locate_text(&self, text: &str) -> Result<Located, TargetError>
         ensures place { IfOk result IsPlace }
         ensures inside { IfOk result (λ l. self.now.is_import ≡ false → IsInside l) }
+        ensures names { IfOk result (λ located. shown located ≡ (
+          is_inner text.now,
+          with_star (option_map (λ star. star.now) self.now.star) text.now,
+        )) }
     {
         match text.strip_prefix("./") {
             Some(path) => Ok(Located::Inside(self.inner_address(text, path)?)),
-            None => {
-                if self.is_import && is_package(text) {
-                    return Ok(Located::Bare(self.insert_star(text)?));
-                }
-                Err(self.invalid_target(text))
-            }
+            None if self.is_import => Ok(Located::Bare(self.insert_star(text)?)),
+            None => Err(self.invalid_target(text)),
         }
     }
 
     /// The address of a path in the package, which stands behind `./` in a text.
     fn inner_address(&self, text: &str, path: &str) -> Result<String, TargetError>
-        ensures { IfOk result (λ address. is_inner (string_bytes address) ≡ true) }
+        requires { text.now ≡ codes "./" ++ path.now }
+        ensures inner { IfOk result (λ address. is_inner (string_bytes address) ≡ true) }
+        ensures text { IfOk result (λ address. string_bytes address
+            ≡ with_star (option_map (λ star. star.now) self.now.star) text.now) }
     {
-        if has_forbidden_part(path) {
-            return Err(self.invalid_target(text));
-        }
         if self.star.is_some_and(has_forbidden_part) {
             return Err(self.invalid_subpath(self.insert_star(self.key)?.as_str()));
         }
@@ -459,7 +267,10 @@ impl Lookup<'_> {
     }
 
     /// The text with each `*` replaced by what the key's stands for.
-    fn insert_star(&self, text: &str) -> Result<String, TargetError> {
+    fn insert_star(&self, text: &str) -> Result<String, TargetError>
+        ensures { IfOk result (λ it. string_bytes it
+            ≡ with_star (option_map (λ star. star.now) self.now.star) text.now) }
+    {
         let Some(star) = self.star else {
             return Ok(String::from_str(self.alloc, text)?);
         };
@@ -490,57 +301,16 @@ fn length_with_star(text: &str, star: &str) -> usize {
 }
 
 /// A text with each `*` replaced.
-fn with_star(alloc: Global, text: &str, star: &str) -> Result<String, AllocError> {
-    let mut whole = String::new(alloc);
-    for c in text.chars() {
-        if c == '*' {
-            whole.push_str(star)?;
-        } else {
-            whole.push(c)?;
-        }
-    }
-    Ok(whole)
-}
-
-/// Whether a target of `imports` is a specifier of a package, or of one of Node's modules without `node:`.
-fn is_package(text: &str) -> bool {
-    if text.starts_with("../") {
-        return false;
-    }
-    match Specifier::of(text, Loader::EcmaScript) {
-        Specifier::Builtin(_) => !text.starts_with("node:"),
-        Specifier::Bare(_) | Specifier::Internal(_) | Specifier::Relative(_) => true,
-        _ => false,
-    }
-}
-
-/// Of what two alternatives give, the second, where it gives something.
-fn later(
-    first: Result<TargetOutcome, TargetError>,
-    second: Result<TargetOutcome, TargetError>,
-) -> Result<TargetOutcome, TargetError>
-    ensures { (result ≡ first) ⊎ (result ≡ second) }
+fn with_star(alloc: Global, text: &str, star: &str) -> Result<String, AllocError>
+    ensures { IfOk result (λ it. string_bytes it ≡ with_star (Some star.now) text.now) }
 {
-    match second {
-        Ok(TargetOutcome::Nothing) => first,
-        second => second,
+    let mut whole = String::new(alloc);
+    let mut rest = text;
+    while let Some((front, behind)) = rest.split_once('*') {
+        whole.push_str(front)?;
+        whole.push_str(star)?;
+        rest = behind;
     }
-}
-
-/// Whether an alternative ends the look-up: a file is found, or it fails in another way than that it is no target.
-fn is_end(outcome: &Result<TargetOutcome, TargetError>) -> bool {
-    match outcome {
-        Ok(TargetOutcome::Found(_)) => true,
-        Ok(TargetOutcome::Nothing | TargetOutcome::Null) => false,
-        Err(TargetError::Fault { fault, .. }) => *fault != TargetFault::InvalidTarget,
-        Err(TargetError::Memory(_)) => true,
-    }
-}
-
-/// Whether a key is the decimal number of an index, as JavaScript has them: below 2^32 - 1, with no zero in front.
-fn is_array_index(key: &str) -> bool {
-    if key.starts_with('+') || (key.len() > 1 && key.starts_with('0')) {
-        return false;
-    }
-    matches!(key.parse::<u32>(), Ok(n) if n < u32::MAX)
+    whole.push_str(rest)?;
+    Ok(whole)
 }

@@ -1,6 +1,7 @@
 //! package.json as far as resolution reads it.
 
-use crate::target::PackageTarget;
+use crate::browser::BrowserMap;
+use crate::entries::EntryTable;
 use std::alloc::AllocError;
 use std::fmt;
 
@@ -19,8 +20,8 @@ pub enum Browser {
     Absent,
     /// A text: the main file.
     Main(String),
-    /// A map from a file of the package, or a package, to what takes its place: `None` (`false`) for nothing.
-    Map(Vec<(String, Option<String>)>),
+    /// A map from a file of the package, or a package, to what takes its place.
+    Map(BrowserMap),
 }
 
 /// What a package.json says.
@@ -31,8 +32,8 @@ pub struct Package {
     pub module: Option<String>,
     pub browser: Browser,
     /// `None` where there is none, or it is `null`.
-    pub exports: Option<PackageTarget>,
-    pub imports: Option<PackageTarget>,
+    pub exports: Option<EntryTable>,
+    pub imports: Option<EntryTable>,
 }
 
 impl Drop for Package {

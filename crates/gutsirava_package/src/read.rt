@@ -1,9 +1,13 @@
 //! The reader of package.json. What it does not know, or what has another type than it wants, is passed over.
 
-ghost use Rattle.std.specs.Prelude.{◌≡◌, IfOk, codes, is_some, option_map, string_bytes};
+ghost use Rattle.std.specs.Prelude.{◌≡◌, IfOk, Some, codes, is_some, option_map, string_bytes};
+ghost use Rattle.json.specs.Find.{get};
 ghost use Rattle.json.specs.Value.{value_view};
 ghost use Rattle.gutsirava_package.specs.Fields as fields;
+ghost use Rattle.gutsirava_package.specs.Read.{IsBrowser};
 
+use crate::browser::BrowserMap;
+use crate::entries::{EntryTable, LoaderConditions};
 use crate::package::{Browser, Package, PackageError, PackageType};
 use crate::target::PackageTarget;
 use json::{Error, Scratch, Value};
@@ -20,8 +24,13 @@ impl Package {
     ghost use Rattle.gutsirava_package.specs.Fields as fields;
     ghost use Rattle.gutsirava_package.specs.Read.{IsPackage};
 
-    /// Reads a package.json. Of a key that comes twice the last value counts; a value other than an object says nothing.
-    pub fn parse(alloc: Global, text: &str) -> Result<Package, PackageError>
+    /// Reads a package.json, of whose `exports` and `imports` it is known which conditions hold. Of a key that comes
+    /// twice the last value counts; a value other than an object says nothing.
+    pub fn parse(
+        alloc: Global,
+        text: &str,
+        conditions: LoaderConditions<'_>,
+    ) -> Result<Package, PackageError>
         ensures refused { result ≡ Err PackageError.Json
             → document (fields.unmarked text.now) ≡ None }
         ensures read { IfOk result (λ it. (json : Json)
@@ -30,7 +39,7 @@ impl Package {
         let text = unmarked(text);
         let mut scratch = Scratch::new(alloc);
         match Value::parse(alloc, text, &mut scratch) {
-            Ok(value) => match Package::read(alloc, &value) {
+            Ok(value) => match Package::read(alloc, &value, conditions) {
                 Ok(package) => Ok(package),
                 Err(refused) => Err(PackageError::Memory(refused)),
             },
@@ -40,12 +49,16 @@ impl Package {
     }
 
     /// What a value says of a package.
-    fn read(alloc: Global, value: &Value<'_>) -> Result<Package, AllocError>
+    fn read(
+        alloc: Global,
+        value: &Value<'_>,
+        conditions: LoaderConditions<'_>,
+    ) -> Result<Package, AllocError>
         ensures { IfOk result (λ it. IsPackage it (value_view value.now)) }
     {
         let texts = TextFields::read(alloc, value)?;
-        let maps = Maps::read(alloc, value)?;
-        let browser = browser_of(alloc, value.get("browser"))?;
+        let maps = Maps::read(alloc, value, conditions)?;
+        let browser = browser_of(alloc, value)?;
         Ok(Package {
             name: texts.name,
             module_type: type_of(value),
@@ -104,8 +117,8 @@ impl TextFields {
 /// The fields that are maps to targets.
 #[derive(Drop)]
 struct Maps {
-    exports: Option<PackageTarget>,
-    imports: Option<PackageTarget>,
+    exports: Option<EntryTable>,
+    imports: Option<EntryTable>,
 }
 
 impl Maps {
@@ -113,14 +126,24 @@ impl Maps {
     ghost use Rattle.json.specs.Value.{value_view};
     ghost use Rattle.gutsirava_package.specs.Fields as fields;
 
-    fn read(alloc: Global, value: &Value<'_>) -> Result<Maps, AllocError>
+    fn read(
+        alloc: Global,
+        value: &Value<'_>,
+        conditions: LoaderConditions<'_>,
+    ) -> Result<Maps, AllocError>
         ensures exports { IfOk result (λ it. is_some it.exports
             ≡ fields.says (codes "exports") (value_view value.now)) }
         ensures imports { IfOk result (λ it. is_some it.imports
             ≡ fields.says (codes "imports") (value_view value.now)) }
     {
-        let exports = map_of(alloc, value, "exports")?;
-        let imports = map_of(alloc, value, "imports")?;
+        let exports = match map_of(alloc, value, "exports")? {
+            Some(target) => Some(EntryTable::of_exports(alloc, &target, conditions)?),
+            None => None,
+        };
+        let imports = match map_of(alloc, value, "imports")? {
+            Some(target) => Some(EntryTable::of_imports(alloc, &target, conditions)?),
+            None => None,
+        };
         Ok(Maps { exports, imports })
     }
 }
@@ -167,29 +190,24 @@ fn type_named(text: &str) -> PackageType
     }
 }
 
-fn browser_of(alloc: Global, value: Option<&Value<'_>>) -> Result<Browser, AllocError> {
-    match value {
-        Some(Value::String(text)) => Ok(Browser::Main(String::from_str(alloc, text)?)),
-        Some(Value::Object(members)) => Ok(Browser::Map(replacements_of(alloc, members)?)),
-        _ => Ok(Browser::Absent),
+/// The field `browser` of a value.
+fn browser_of(alloc: Global, value: &Value<'_>) -> Result<Browser, AllocError>
+    ensures { IfOk result (λ it. IsBrowser it (get (codes "browser") (value_view value.now))) }
+{
+    match value.get("browser") {
+        Some(field) => browser_in(alloc, field),
+        None => Ok(Browser::Absent),
     }
 }
 
-/// The pairs of a map `browser`: a text, or `false`.
-fn replacements_of(
-    alloc: Global,
-    members: &[(&str, Value<'_>)],
-) -> Result<Vec<(String, Option<String>)>, AllocError> {
-    let mut pairs = Vec::new(alloc);
-    for (key, value) in members {
-        let replacement = match value {
-            Value::String(text) => Some(String::from_str(alloc, text)?),
-            Value::Bool(false) => None,
-            _ => continue,
-        };
-        pairs.push((String::from_str(alloc, key)?, replacement))?;
+fn browser_in(alloc: Global, field: &Value<'_>) -> Result<Browser, AllocError>
+    ensures { IfOk result (λ it. IsBrowser it (Some (value_view field.now))) }
+{
+    match field {
+        Value::String(text) => Ok(Browser::Main(String::from_str(alloc, text)?)),
+        Value::Object(members) => Ok(Browser::Map(BrowserMap::of(alloc, members)?)),
+        Value::Null | Value::Bool(_) | Value::Number(_) | Value::Array(_) => Ok(Browser::Absent),
     }
-    Ok(pairs)
 }
 
 /// What `exports` or `imports` says; `null` says nothing.

@@ -1,11 +1,10 @@
 //! The map `browser` of a package: what takes another's place for browsers.
 
 use crate::error::ResolutionError;
-use crate::externals::have;
 use crate::files::FileSystem;
 use crate::settings::Settings;
 use crate::tree::Tree;
-use gutsirava_package::{Browser, Package};
+use gutsirava_package::{Browser, BrowserMap, BrowserReplacement, Package};
 use gutsirava_path::folder_of;
 use std::alloc::{AllocError, Global};
 
@@ -24,20 +23,18 @@ impl<F: FileSystem + Drop> Tree<F> {
         &mut self,
         folder: &str,
         specifier: &str,
+        settings: &Settings,
     ) -> Result<Option<Replacement>, ResolutionError> {
         let alloc = self.alloc;
-        let Some(scope) = self.scope(folder)? else {
+        let Some(scope) = self.scope(folder, settings)? else {
             return Ok(None);
         };
-        let Some(package) = self.package(scope)? else {
+        let Some(map) = self.package(scope, settings)?.and_then(browser_map) else {
             return Ok(None);
         };
-        let found = replacements(package)
-            .iter()
-            .find(|(key, _)| key.as_str() == specifier);
-        match found {
+        match map.place(specifier) {
+            Some(place) => Ok(replacement_at(alloc, scope, map, place)?),
             None => Ok(None),
-            Some((_, text)) => Ok(Some(replacement_of(alloc, scope, text)?)),
         }
     }
 
@@ -66,22 +63,20 @@ impl<F: FileSystem + Drop> Tree<F> {
         settings: &Settings,
     ) -> Result<Option<Replacement>, ResolutionError> {
         let alloc = self.alloc;
-        let Some(scope) = self.scope(folder_of(path))? else {
+        let Some(scope) = self.scope(folder_of(path), settings)? else {
             return Ok(None);
         };
-        let Some(package) = self.package(scope)? else {
+        let Some(map) = self.package(scope, settings)?.and_then(browser_map) else {
             return Ok(None);
         };
         let inner = path
             .strip_prefix(scope)
             .unwrap_or(path)
             .trim_start_matches('/');
-        for (key, text) in replacements(package) {
-            if subject.is_named(key.as_str(), inner, settings) {
-                return Ok(Some(replacement_of(alloc, scope, text)?));
-            }
+        match subject.place(alloc, map, inner, settings)? {
+            Some(place) => Ok(replacement_at(alloc, scope, map, place)?),
+            None => Ok(None),
         }
-        Ok(None)
     }
 }
 
@@ -95,44 +90,98 @@ enum MapSubject {
 }
 
 impl MapSubject {
-    /// Whether a key is that of a path in the package. A key may leave out the ending of a file, or `/index` and an
-    /// ending, and so may the path of a place.
-    fn is_named(self, key: &str, inner: &str, settings: &Settings) -> bool {
-        let key = key.strip_prefix("./").unwrap_or(key);
-        match self {
-            MapSubject::File => completes_to(key, inner, settings),
-            MapSubject::Place => completes_to(inner, key, settings),
+    /// The place of the first key of the map that is that of a path in the package. A key may leave out the ending of a
+    /// file, or `/index` and an ending, and so may the path of a place.
+    fn place(
+        self,
+        alloc: Global,
+        map: &BrowserMap,
+        inner: &str,
+        settings: &Settings,
+    ) -> Result<Option<usize>, AllocError> {
+        let mut first = place_of(alloc, map, inner)?;
+        for extension in &settings.extensions {
+            let ending = extension.as_str();
+            let place = match self {
+                MapSubject::File => place_without(alloc, map, inner, ending)?,
+                MapSubject::Place => place_with(alloc, map, inner, ending)?,
+            };
+            first = earlier(first, place);
         }
+        Ok(first)
     }
 }
 
-/// The pairs of a package's map `browser`.
-fn replacements(package: &Package) -> &[(String, Option<String>)] {
+/// The first place of a path's key, which may have `./` in front.
+fn place_of(alloc: Global, map: &BrowserMap, inner: &str) -> Result<Option<usize>, AllocError> {
+    let below = format!(in alloc; "./{inner}")?;
+    let place = map.place(below.as_str());
+    if inner.starts_with("./") {
+        return Ok(place);
+    }
+    Ok(earlier(map.place(inner), place))
+}
+
+/// The first place of the key of a path without an ending, or without `/index` and an ending.
+fn place_without(
+    alloc: Global,
+    map: &BrowserMap,
+    inner: &str,
+    ending: &str,
+) -> Result<Option<usize>, AllocError> {
+    let Some(stem) = inner.strip_suffix(ending) else {
+        return Ok(None);
+    };
+    let place = place_of(alloc, map, stem)?;
+    match stem.strip_suffix("/index") {
+        Some(folder) => Ok(earlier(place, place_of(alloc, map, folder)?)),
+        None => Ok(place),
+    }
+}
+
+/// The first place of the key of a path with an ending, or with `/index` and an ending.
+fn place_with(
+    alloc: Global,
+    map: &BrowserMap,
+    inner: &str,
+    ending: &str,
+) -> Result<Option<usize>, AllocError> {
+    let file = format!(in alloc; "{inner}{ending}")?;
+    let index = format!(in alloc; "{inner}/index{ending}")?;
+    let place = place_of(alloc, map, file.as_str())?;
+    Ok(earlier(place, place_of(alloc, map, index.as_str())?))
+}
+
+/// The earlier of two places.
+fn earlier(one: Option<usize>, other: Option<usize>) -> Option<usize> {
+    match (one, other) {
+        (Some(one), Some(other)) => Some(one.min(other)),
+        (one, None) => one,
+        (None, other) => other,
+    }
+}
+
+/// The map `browser` of a package, if it has one.
+fn browser_map(package: &Package) -> Option<&BrowserMap> {
     match &package.browser {
-        Browser::Map(pairs) => pairs.as_slice(),
-        Browser::Absent | Browser::Main(_) => &[],
+        Browser::Map(map) => Some(map),
+        Browser::Absent | Browser::Main(_) => None,
     }
 }
 
-fn replacement_of(
+/// What the key at a place of the map says.
+fn replacement_at(
     alloc: Global,
     scope: &str,
-    text: &Option<String>,
-) -> Result<Replacement, AllocError> {
-    match text {
-        None => Ok(Replacement::Empty),
-        Some(text) => Ok(Replacement::Text {
+    map: &BrowserMap,
+    place: usize,
+) -> Result<Option<Replacement>, AllocError> {
+    match map.replacement(place) {
+        Some(BrowserReplacement::Empty) => Ok(Some(Replacement::Empty)),
+        Some(BrowserReplacement::Text(text)) => Ok(Some(Replacement::Text {
             folder: String::from_str(alloc, scope)?,
             text: text.clone()?,
-        }),
+        })),
+        Some(BrowserReplacement::Unknown) | None => Ok(None),
     }
-}
-
-/// Whether a path is another one, or that with an ending, or that with `/index` and an ending.
-fn completes_to(front: &str, path: &str, settings: &Settings) -> bool {
-    let Some(rest) = path.strip_prefix(front) else {
-        return false;
-    };
-    let ending = rest.strip_prefix("/index").unwrap_or(rest);
-    rest.is_empty() || have(settings.extensions.as_slice(), ending)
 }

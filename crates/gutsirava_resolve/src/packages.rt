@@ -126,7 +126,7 @@ impl<F: FileSystem + Drop> Tree<F> {
         let split = split_package(wanted.specifier);
         match split {
             Some((name, rest)) => {
-                if let Some(scope) = self.own_package(wanted.folder, name)? {
+                if let Some(scope) = self.own_package(wanted, name)? {
                     return self.exported_file(wanted, scope, rest);
                 }
             }
@@ -182,13 +182,13 @@ impl<F: FileSystem + Drop> Tree<F> {
     /// The folder of the package that asks, where it has the name and exports.
     fn own_package<'p>(
         &mut self,
-        folder: &'p str,
+        wanted: &Wanted<'p, '_>,
         name: &str,
     ) -> Result<Option<&'p str>, ResolutionError> {
-        let Some(scope) = self.scope(folder)? else {
+        let Some(scope) = self.scope(wanted.folder, wanted.settings)? else {
             return Ok(None);
         };
-        let is_own = match self.package(scope)? {
+        let is_own = match self.package(scope, wanted.settings)? {
             None => false,
             Some(package) => {
                 package.exports.is_some()
@@ -235,7 +235,7 @@ impl<F: FileSystem + Drop> Tree<F> {
             (λ file. F.has_file (string_bytes file.path))) }
     {
         let is_installed = self.is_folder(folder)?;
-        if is_installed && self.has_exports(folder)? {
+        if is_installed && self.has_exports(folder, wanted.settings)? {
             return self.exported_file(wanted, folder, rest);
         }
         if wanted.loader == Loader::CommonJs {
@@ -255,6 +255,7 @@ impl<F: FileSystem + Drop> Tree<F> {
         &mut self,
         specifier: &str,
         folder: &str,
+        settings: &Settings,
     ) -> Result<Option<String>, ResolutionError> {
         let Some((name, rest)) = split_package(specifier) else {
             return Ok(None);
@@ -265,7 +266,7 @@ impl<F: FileSystem + Drop> Tree<F> {
         let Some(package) = self.installed_folder(name, folder)? else {
             return Ok(None);
         };
-        if self.has_exports(package.as_str())? {
+        if self.has_exports(package.as_str(), settings)? {
             return Ok(None);
         }
         let text = inner_text(self.alloc, rest)?;
@@ -294,8 +295,8 @@ impl<F: FileSystem + Drop> Tree<F> {
     }
 
     /// Whether the package in a folder has exports.
-    fn has_exports(&mut self, folder: &str) -> Result<bool, ResolutionError> {
-        match self.package(folder)? {
+    fn has_exports(&mut self, folder: &str, settings: &Settings) -> Result<bool, ResolutionError> {
+        match self.package(folder, settings)? {
             Some(package) => Ok(package.exports.is_some()),
             None => Ok(false),
         }
@@ -357,12 +358,11 @@ impl<F: FileSystem + Drop> Tree<F> {
         rest: &str,
     ) -> Result<Option<String>, ResolutionError> {
         let alloc = self.alloc;
-        let conditions = wanted.settings.conditions(wanted.loader);
-        let Some(package) = self.package(folder)? else {
+        let Some(package) = self.package(folder, wanted.settings)? else {
             return Ok(None);
         };
         let subpath = inner_text(alloc, rest)?;
-        match package.resolve_export(alloc, subpath.as_str(), conditions) {
+        match package.resolve_export(alloc, subpath.as_str(), wanted.loader) {
             Ok(Located::Inside(text) | Located::Bare(text)) => Ok(Some(text)),
             Err(cause) => Err(target_error(alloc, folder, cause)),
         }
@@ -395,7 +395,7 @@ impl<F: FileSystem + Drop> Tree<F> {
     ) -> Result<Internal, ResolutionError>
         ensures { IfOk result (IsInternalFile F.has_file) }
     {
-        let Some(scope) = self.scope(wanted.folder)? else {
+        let Some(scope) = self.scope(wanted.folder, wanted.settings)? else {
             return Ok(Internal::Undefined);
         };
         match self.internal_entry(wanted, scope)? {
@@ -415,14 +415,13 @@ impl<F: FileSystem + Drop> Tree<F> {
         folder: &str,
     ) -> Result<Option<Located>, ResolutionError> {
         let alloc = self.alloc;
-        let conditions = wanted.settings.conditions(wanted.loader);
-        let Some(package) = self.package(folder)? else {
+        let Some(package) = self.package(folder, wanted.settings)? else {
             return Ok(None);
         };
         if package.imports.is_none() {
             return Ok(None);
         }
-        match package.resolve_import(alloc, wanted.specifier, conditions) {
+        match package.resolve_import(alloc, wanted.specifier, wanted.loader) {
             Ok(located) => Ok(Some(located)),
             Err(cause) => Err(target_error(alloc, folder, cause)),
         }

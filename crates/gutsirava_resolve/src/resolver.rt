@@ -80,7 +80,7 @@ impl<F: FileSystem + Drop> Resolver<F> {
     pub fn format(&mut self, path: &str) -> Result<FileFormat, ResolutionError>
         ensures { IfOk result (IsFormatOf path.now) }
     {
-        self.tree.format(path)
+        self.tree.format(path, &self.settings)
     }
 
     /// What a specifier names for the file that asks.
@@ -183,10 +183,11 @@ impl<F: FileSystem + Drop> Resolver<F> {
     {
         let folder = folder_of(request.importer);
         if self.settings.uses_browser_map {
-            match self.tree.replaced_name(folder, request.specifier)? {
+            let specifier = request.specifier;
+            match self.tree.replaced_name(folder, specifier, &self.settings)? {
                 None => {}
                 Some(Replacement::Empty) => {
-                    let name = String::from_str(self.alloc, request.specifier)?;
+                    let name = String::from_str(self.alloc, specifier)?;
                     return Ok(Resolved::Empty(name));
                 }
                 Some(Replacement::Text { folder, text }) => {
@@ -308,7 +309,7 @@ impl<F: FileSystem + Drop> Resolver<F> {
         if !self.settings.uses_browser_map {
             return Ok(None);
         }
-        match self.tree.inner_path(specifier, folder)? {
+        match self.tree.inner_path(specifier, folder, &self.settings)? {
             Some(path) => self.mapped(path.as_str(), loader),
             None => Ok(None),
         }

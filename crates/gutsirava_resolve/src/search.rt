@@ -157,7 +157,7 @@ impl<F: FileSystem + Drop> Tree<F> {
             if !takes_module && *field == MainField::Module {
                 continue;
             }
-            let Some(main) = self.field_path(folder, *field)? else {
+            let Some(main) = self.field_path(folder, *field, settings)? else {
                 continue;
             };
             let file = self.main_at(main.as_str(), settings)?;
@@ -173,9 +173,10 @@ impl<F: FileSystem + Drop> Tree<F> {
         &mut self,
         folder: &str,
         field: MainField,
+        settings: &Settings,
     ) -> Result<Option<String>, ResolutionError> {
         let alloc = self.alloc;
-        let Some(package) = self.package(folder)? else {
+        let Some(package) = self.package(folder, settings)? else {
             return Ok(None);
         };
         match field_text(package, field) {

@@ -4,8 +4,9 @@ ghost use Rattle.std.specs.Prelude.{IfOk, IfSome, string_bytes};
 use crate::error::{PathFault, ResolutionError};
 use crate::files::FileSystem;
 use crate::known::{Known, files_error};
-use gutsirava_package::{Package, PackageError};
-use gutsirava_path::{file_name, join, parent};
+use crate::settings::Settings;
+use gutsirava_package::{LoaderConditions, Package, PackageError};
+use gutsirava_path::{Loader, file_name, join, parent};
 use std::alloc::{AllocError, Global};
 use std::collections::BTreeMap;
 
@@ -76,10 +77,14 @@ impl<F: FileSystem + Drop> Tree<F> {
     }
 
     /// What the package.json of a folder says, if it has one.
-    pub(crate) fn package(&mut self, folder: &str) -> Result<Option<&Package>, ResolutionError> {
+    pub(crate) fn package(
+        &mut self,
+        folder: &str,
+        settings: &Settings,
+    ) -> Result<Option<&Package>, ResolutionError> {
         let place = match self.places.get(folder).copied() {
             Some(place) => place,
-            None => self.read_package(folder)?,
+            None => self.read_package(folder, settings)?,
         };
         match place {
             Some(at) => Ok(self.packages.get(at)),
@@ -88,19 +93,27 @@ impl<F: FileSystem + Drop> Tree<F> {
     }
 
     /// Reads the package.json of a folder, and keeps what it says.
-    fn read_package(&mut self, folder: &str) -> Result<Option<usize>, ResolutionError> {
+    fn read_package(
+        &mut self,
+        folder: &str,
+        settings: &Settings,
+    ) -> Result<Option<usize>, ResolutionError> {
         let path = join(self.alloc, folder, "package.json")?;
-        let place = self.read_file(path.as_str())?;
+        let place = self.read_file(path.as_str(), settings)?;
         self.add_place(folder, place)?;
         Ok(place)
     }
 
     /// Reads the package.json at a path, if one is there, and keeps what it says.
-    fn read_file(&mut self, path: &str) -> Result<Option<usize>, ResolutionError> {
+    fn read_file(
+        &mut self,
+        path: &str,
+        settings: &Settings,
+    ) -> Result<Option<usize>, ResolutionError> {
         if self.known.file(self.alloc, path)?.is_none() {
             return Ok(None);
         }
-        let package = self.parse_package(path)?;
+        let package = self.parse_package(path, settings)?;
         let at = self.packages.len();
         match self.packages.push(package) {
             Ok(()) => Ok(Some(at)),
@@ -115,12 +128,20 @@ impl<F: FileSystem + Drop> Tree<F> {
         Ok(())
     }
 
-    fn parse_package(&mut self, path: &str) -> Result<Package, ResolutionError> {
+    fn parse_package(
+        &mut self,
+        path: &str,
+        settings: &Settings,
+    ) -> Result<Package, ResolutionError> {
         let text = match self.known.read(self.alloc, path) {
             Ok(text) => text,
             Err(cause) => return Err(files_error(self.alloc, path, cause)),
         };
-        match Package::parse(self.alloc, text.as_str()) {
+        let conditions = LoaderConditions {
+            import: settings.conditions(Loader::EcmaScript),
+            require: settings.conditions(Loader::CommonJs),
+        };
+        match Package::parse(self.alloc, text.as_str(), conditions) {
             Ok(package) => Ok(package),
             Err(cause) => Err(package_error(self.alloc, path, cause)),
         }
@@ -131,10 +152,11 @@ impl<F: FileSystem + Drop> Tree<F> {
     pub(crate) fn scope<'p>(
         &mut self,
         folder: &'p str,
+        settings: &Settings,
     ) -> Result<Option<&'p str>, ResolutionError> {
         let mut here = folder;
         while file_name(here) != "node_modules" {
-            if self.package(here)?.is_some() {
+            if self.package(here, settings)?.is_some() {
                 return Ok(Some(here));
             }
             let Some(above) = parent(here) else {
