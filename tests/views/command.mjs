@@ -26,7 +26,9 @@ function folderOf(name, files) {
   const folder = path.join(made, name);
   for (const [file, text] of Object.entries(files)) {
     fs.mkdirSync(path.dirname(path.join(folder, file)), { recursive: true });
-    fs.writeFileSync(path.join(folder, file), text);
+    // At one stroke: what watches the file never sees it empty.
+    fs.writeFileSync(path.join(made, 'written'), text);
+    fs.renameSync(path.join(made, 'written'), path.join(folder, file));
   }
   return folder;
 }
@@ -159,6 +161,8 @@ async function judgeWatch() {
 async function judgeWatchedLink() {
   const it = watchIn('link', { 'one.js': 'console.log(1111);\n', 'two.js': 'console.log(2222);\n' });
   await it.until('no entry', () => it.times('watching 0 files') === 1);
+  // Time and size tell the two files not apart.
+  for (const file of ['one.js', 'two.js']) fs.utimesSync(it.at(file), 1e9, 1e9);
   fs.symlinkSync('one.js', it.at('main.js'));
   await it.until('comes', () => it.text().includes('1111') && it.times('watching 2 files') === 1);
   it.remove('main.js');

@@ -7,6 +7,7 @@ use gutsirava_files::MachineFiles;
 use gutsirava_resolve::{FileSystem, PathKind};
 use std::alloc::Global;
 use std::fs::Metadata;
+use std::os::unix::fs::MetadataExt;
 use std::rt::Files as System;
 use std::time::{Duration, SystemTime};
 use std::{fs, io};
@@ -18,11 +19,14 @@ pub enum PathStamp {
     Missing,
     /// A folder, whatever is in it, or what is neither a file nor a folder.
     Folder,
-    /// A file, by the time since 1970 at which it was changed, and how many bytes it has.
+    /// A file, by the time since 1970 at which it was changed, how many bytes it has, and which one it is: of two files
+    /// to which a link leads in turn, time and size may be the same.
     File {
         seconds: u64,
         nanoseconds: u32,
         bytes: u64,
+        device: u64,
+        inode: u64,
     },
 }
 
@@ -85,6 +89,8 @@ fn stamp_of(metadata: &Metadata) -> PathStamp {
         seconds: since.as_secs(),
         nanoseconds: since.subsec_nanos(),
         bytes: metadata.len(),
+        device: metadata.dev(),
+        inode: metadata.ino(),
     }
 }
 
